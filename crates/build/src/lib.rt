@@ -1,0 +1,7 @@
+// Leaves and operations: document 01, "Building".
+
+// The id that a building call answers, or the number of its refusal.
+pub enum Answer {
+    Id(u64),
+    Refused(u64),
+}

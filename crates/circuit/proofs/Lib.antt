@@ -1,0 +1,10 @@
+-- What the proofs of several functions, and the layers above, use.
+pub mod Tests
+pub mod Valid
+pub mod Places
+pub mod Marks
+pub mod Visits
+pub mod Checks
+pub mod Lists
+pub mod Trees
+pub mod Cycle

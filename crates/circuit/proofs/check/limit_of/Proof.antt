@@ -1,0 +1,29 @@
+use native.Mathlib.Omega.{arith}
+use Rattle.circuit.specs.Words.{limit}
+use borrow.Author.Needs.{needs}
+use Rattle.circuit.proofs.check.limit_of.Statement.{statement}
+use Rattle.circuit.proofs.check.limit_of.Tie as tie
+use Rattle.circuit.proofs.check.limit_of.Reads as reads
+use Rattle.circuit.proofs.check.limit_of.Lts as lts
+
+-- src/check.rt:30:9
+returns : tie.Need-returns
+unfolding limit
+returns c = omega arith
+
+-- src/check.rt:32:19
+sub-places : tie.Need-sub-places
+sub-places c = search needs
+
+-- src/check.rt:34:9
+returns-2 : tie.Need-returns-2
+unfolding limit
+returns-2 c = omega arith
+
+-- src/check.rt:26:1
+returns-3 : tie.Need-returns-3
+unfolding limit
+returns-3 c = omega arith
+
+pub limit-of-spec : {M : Type 1} → statement M
+limit-of-spec = tie.close (tie.spec returns sub-places returns-2 returns-3)

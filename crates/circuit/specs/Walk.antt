@@ -1,0 +1,77 @@
+-- The walk that ranks the nodes, inside the check: it finishes each node after its operands. Assumes nothing.
+use Prim.Native.Nat.{ℕ, zero, suc, _+_, _<_, _≤_}
+use mathlib.Core.Path.{_≡_}
+use mathlib.Core.Logic.{_⊎_, _≢_}
+use mathlib.Core.Bool.{Bool, true, false, not}
+use mathlib.Core.List.{List}
+use lib.ListN.{length, set}
+use lib.Dec.{ltb}
+use Rattle.circuit.specs.declared.node.Position.{Position}
+use Rattle.circuit.specs.declared.node.Op.{Op}
+use Rattle.circuit.specs.declared.node.Expression.{Expression}
+use Rattle.circuit.specs.declared.node.Expression.the-variants.{Base, Extension, Challenge, Operation, Input}
+use Rattle.circuit.specs.declared.check.Step.{Step}
+use Rattle.circuit.specs.declared.check.Step.the-variants.{Stay, Two}
+use Rattle.circuit.specs.Lists.{if_then_else_, upTo, any}
+use Rattle.circuit.specs.Words.{used, expressionAt}
+use Rattle.circuit.specs.NotCircuit.{badHeader, badNode, goesOn, cyclic}
+use Rattle.circuit.specs.Rank.{at, Sorted}
+
+-- what the walk does at a node
+abbrev pub stepOf : Expression → Step
+stepOf (Base w) = Stay
+stepOf (Extension x) = Stay
+stepOf (Challenge k) = Stay
+stepOf (Operation o l r) = Two l r
+stepOf (Input q) = Stay
+
+-- how many of the first i nodes are finished: they have a rank below n
+unfoldable pub finished : List ℕ → ℕ → ℕ → ℕ
+finished rank n zero = 0
+finished rank n (suc i) = finished rank n i + (if ltb (at rank i) n then 1 else 0)
+
+-- `done` nodes are finished, each after its operands
+pub record Walking (m order rank : List ℕ) (done : ℕ) : Type 0 where
+  pub counted : finished rank (used m) (used m) ≡ done
+  pub before : (i : ℕ) → i < used m → at rank i < used m → at rank i < done
+  pub order-rank : (i : ℕ) → i < used m → at rank i < used m → at order (at rank i) ≡ i
+  pub order-below : (q : ℕ) → q < done → at order q < used m
+  pub rank-order : (q : ℕ) → q < done → at rank (at order q) ≡ q
+  pub left-first : (i : ℕ) (o : Op) (l r : ℕ) → i < used m → at rank i < used m → expressionAt m i ≡ Operation o l r → at rank l < at rank i
+  pub right-first : (i : ℕ) (o : Op) (l r : ℕ) → i < used m → at rank i < used m → expressionAt m i ≡ Operation o l r → at rank r < at rank i
+
+-- words whose header and nodes are without fault, and lists with room for each node
+pub record Walkable (m order rank : List ℕ) : Type 0 where
+  pub header : badHeader m ≡ false
+  pub good : any (badNode m) (upTo (used m)) ≡ false
+  pub order-room : 4096 ≤ length order
+  pub rank-room : 4096 ≤ length rank
+
+pub record Visiting (m order rank : List ℕ) (i done : ℕ) : Type 0 where
+  pub able : Walkable m order rank
+  pub here : i < used m
+  pub walking : Walking m order rank done
+
+-- a node that is finished next: its place in the order is its rank
+pub record Finished (order rank order′ rank′ : List ℕ) (i done answer : ℕ) : Type 0 where
+  pub listed : order′ ≡ set order done i
+  pub ranked : rank′ ≡ set rank i done
+  pub counted : answer ≡ done + 1
+
+-- after a visit of node i: its answer is the number of finished nodes, i among them and the last if it was not, or 0 if a path from i goes on
+-- for `levels`
+pub record Visited (m rank order′ rank′ : List ℕ) (i levels answer : ℕ) : Type 0 where
+  pub walking : answer ≢ 0 → Walking m order′ rank′ answer
+  pub kept : answer ≢ 0 → (j : ℕ) → at rank j < used m → at rank′ j ≡ at rank j
+  pub here : answer ≢ 0 → at rank′ i < used m
+  pub last : answer ≢ 0 → (rank′ ≡ rank) ⊎ (at rank′ i + 1 ≡ answer)
+  pub goes-on : answer ≡ 0 → goesOn m levels i ≡ true
+
+-- no node is finished
+unfoldable pub Unfinished : List ℕ → ℕ → Type 0
+Unfinished rank n = (i : ℕ) → i < n → at rank i ≡ n
+
+-- what the whole walk answers, and hands on
+pub record Walked (m order rank : List ℕ) (answer : Bool) : Type 0 where
+  pub told : answer ≡ not (cyclic m)
+  pub sorted : answer ≡ true → Sorted m order rank

@@ -1,0 +1,4 @@
+// A circuit in lent words: what a node is, by value. What the words say stands in specs/Words.antt.
+pub mod check;
+pub mod node;
+pub mod place;

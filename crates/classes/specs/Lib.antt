@@ -1,0 +1,2 @@
+-- Reading order: Classes.
+pub mod Classes

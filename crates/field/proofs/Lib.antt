@@ -1,0 +1,5 @@
+pub mod Remainders
+pub mod BaseLaws
+pub mod Algebra
+pub mod Words
+pub mod Folds

@@ -1,0 +1,385 @@
+-- One substitution of the definitions is one step of the theory. Assumes nothing.
+use Prim.Native.Nat.{ℕ, suc, _+_, _*_, _≤_, _<_}
+use mathlib.Core.Path.{_≡_, refl, _∙_, ap, ap₂}
+use mathlib.Core.Logic.{_≢_, _⊎_, inl, inr, ⊎-elim}
+use mathlib.Core.Bool.{Bool, true, false, _&&_}
+use mathlib.Core.Option.{Option, none, some}
+use mathlib.Core.List.{List, [], _∷_, _++_, map}
+use native.Mathlib.Decide.{ℕ-discrete}
+use native.Mathlib.Omega.{arith}
+use lib.ListN.{length}
+use borrow.Author.Tests.{le-ltb}
+use Rattle.field.specs.Base.{minusOne}
+use Rattle.circuit.specs.Lists.{if_then_else_, sameWords}
+use Rattle.circuit.specs.declared.node.Position.{Position}
+use Rattle.circuit.specs.declared.node.Position.the-variants.{Main, Aux, NextMain, NextAux}
+use Rattle.circuit.specs.declared.node.Op.{Op}
+use Rattle.circuit.specs.declared.node.Op.the-variants.{Add, Multiply}
+use Rattle.circuit.specs.declared.node.Expression.{Expression}
+use Rattle.circuit.specs.declared.node.Expression.the-variants.{Base, Extension, Challenge, Operation, Input}
+use Rattle.circuit.specs.declared.node.Node.{Node}
+use Rattle.circuit.specs.Words.{used, expressionAt, registered, column, encode, made, isConstant, isMain, isNext}
+use Rattle.circuit.specs.Tree.{baseLeaf, inputLeaf, Tree, leaf, branch, tree}
+use Rattle.build.specs.Building.{Built, built, find, orElse, findOrMake, eitherOrder, folding, operate, negated, subtracted}
+use Rattle.read.specs.Readings.{isBase}
+use Rattle.lower.specs.Lowering.{renamed, redirected, Lowering, substituted}
+use Rattle.lower.proofs.Shape.{Expr, leafE, opE, exprOf, Shape, lf, op, shape, Look, Unf, deg, baseS}
+use Rattle.lower.proofs.Steps.{Minus, Gap, sum, swapped, Move, more, redirE, Stepped, step}
+use Rattle.lower.proofs.Unfold.{leaf-low}
+use Rattle.lower.proofs.OneStep.{tree-after, tree-stays}
+use Rattle.lower.proofs.Count.{unf-some}
+use Rattle.lower.proofs.Words.{look, look-lt, look-is, Sound, shape-is}
+use Rattle.lower.proofs.Proper.{goodLeaf, Proper, made-proper, redirected-proper}
+use Rattle.lower.proofs.Made.{made-used, made-length, made-old, made-mark, look-made-old, look-made-new, look-made-back}
+use Rattle.lower.proofs.Redirects.{redirected-used, redirected-room, redirected-length, redirected-mark, redirected-kept, redirected-turned, redirected-leaf}
+use Rattle.lower.proofs.Finds.{found, finds, Grew, grew-more, unf-ext, made-sound, Got, found-or-made, either-order}
+
+pub is-operation : (e : Expression) (o : Op) (l r : ℕ) → exprOf e ≡ opE o l r → e ≡ Operation o l r
+is-operation (Base w) o l r h = cc
+is-operation (Extension x) o l r h = cc
+is-operation (Challenge k) o l r h = cc
+is-operation (Operation o′ l′ r′) o l r h = cc
+is-operation (Input q) o l r h = cc
+
+is-base : (e : Expression) (w : ℕ) → exprOf e ≡ leafE (baseLeaf w) → e ≡ Base w
+is-base (Base v) w h = cc
+is-base (Extension x) w h = cc
+is-base (Challenge k) w h = cc
+is-base (Operation o l r) w h = cc
+is-base (Input q) w h = cc
+
+pub is-input : (e : Expression) (y : Position) → exprOf e ≡ leafE (inputLeaf y) → e ≡ Input y
+is-input (Base v) y h = cc
+is-input (Extension x) y h = cc
+is-input (Challenge k) y h = cc
+is-input (Operation o l r) y h = cc
+is-input (Input q) y h = cc
+
+minus-good : goodLeaf 1 (baseLeaf minusOne)
+minus-good = refl
+
+module _ (m : List ℕ) (l r : ℕ) (o : Op) (a b : ℕ) (hr : look m r ≡ some (opE o a b)) where
+  right-is : expressionAt m r ≡ Operation o a b
+  right-is = is-operation (expressionAt m r) o a b (look-is m r (opE o a b) hr)
+
+  right-no : (w : ℕ) → isConstant w m r ≡ false
+  unfolding isConstant
+  right-no w = rw right-is
+
+  -- no rule but the last applies
+  pub operate-multiply : look m l ≡ some (leafE (baseLeaf minusOne)) → operate m Multiply l r ≡ eitherOrder m Multiply l r
+  unfolding operate folding isConstant
+  operate-multiply hl =
+      let e : expressionAt m l ≡ Base minusOne = is-base (expressionAt m l) minusOne (look-is m l (leafE (baseLeaf minusOne)) hl) in
+      let one : isConstant 1 m l ≡ false = rw e in
+      let nought : isConstant 0 m l ≡ false = rw e in
+      rw (right-no 1, one, right-no 0, nought, e, right-is)
+
+  pub operate-add : (y : Position) → look m l ≡ some (leafE (inputLeaf y)) → operate m Add l r ≡ eitherOrder m Add l r
+  unfolding operate folding isConstant
+  operate-add y hl =
+      let e : expressionAt m l ≡ Input y = is-input (expressionAt m l) y (look-is m l (leafE (inputLeaf y)) hl) in
+      let nought : isConstant 0 m l ≡ false = rw e in
+      rw (right-no 0, nought, e)
+
+-- a shape of degree above 1 stands at an operation
+operation-at : (c : Look) (u : Shape) (i : ℕ) → 3 ≤ deg u → Unf c u i → (o : Op) × (l : ℕ) × (r : ℕ) × (c i ≡ some (opE o l r))
+operation-at c (lf x) i h w = absurd (omega (arith, leaf-low x))
+operation-at c (op o a b) i h (l, r, p, v, w) = (o, l, r, p)
+
+-- the leaf -1 is there and registered
+abbrev pub HasMinus : List ℕ → Type 0
+HasMinus m = (j : ℕ) × (look m j ≡ some (leafE (baseLeaf minusOne))) × (registered m j ≡ true)
+
+minus-kept : (a b : List ℕ) → Grew a b → HasMinus a → HasMinus b
+minus-kept a b g (j, h, k) = (j, g .ext j (leafE (baseLeaf minusOne)) h, g .marks j (look-lt a j (leafE (baseLeaf minusOne)) h) ∙ k)
+
+minus-found : (m : List ℕ) → HasMinus m → findOrMake m (Base minusOne) .circuit ≡ m
+unfolding findOrMake
+minus-found m (j, h, k) = go (find m (Base minusOne)) refl
+  where
+    go : (x : Option ℕ) → find m (Base minusOne) ≡ x → orElse x m (built (made m (Base minusOne)) (used m)) .circuit ≡ m
+    go (some i) e = refl
+    go none e = absurd (finds m (Base minusOne) j (look-lt m j (leafE (baseLeaf minusOne)) h) k (shape-is m (lf (baseLeaf minusOne)) j h) e)
+
+-- -1 times s, and how many nodes it took
+pub record Negative (m : List ℕ) (u : Shape) (b : Built) : Type 0 where
+  pub grew : Grew m (b .circuit)
+  pub minus : Minus (look (b .circuit)) u (b .id)
+  pub has : HasMinus (b .circuit)
+  pub few : used (b .circuit) ≤ 2 + used m
+  pub then-few : HasMinus m → used (b .circuit) ≤ 1 + used m
+
+-- the new input less s
+pub record Difference (m : List ℕ) (y : Position) (u : Shape) (b : Built) : Type 0 where
+  pub grew : Grew m (b .circuit)
+  pub gap : Gap (look (b .circuit)) y u (b .id)
+  pub has : HasMinus (b .circuit)
+  pub few : used (b .circuit) ≤ 3 + used m
+  pub then-few : HasMinus m → used (b .circuit) ≤ 2 + used m
+
+module _ (m : List ℕ) (sound : Sound m) (s : ℕ) (u : Shape) (large : 3 ≤ deg u) (at-s : Unf (look m) u s) where
+  pub negated-got : Negative m u (negated m s)
+  unfolding negated
+  negated-got =
+      let b : Built = findOrMake m (Base minusOne) in
+      let g : Got m (lf (baseLeaf minusOne)) b = found-or-made m sound (Base minusOne) tt (λ q e. absurd (let z : _≡_ {A = ℕ} 0 1 = cc in omega arith)) (λ x e. let z : baseLeaf minusOne ≡ x = cc in rw (← z) minus-good) in
+      let v : Unf (look (b .circuit)) u s = unf-ext (look m) (look (b .circuit)) (g .grew .ext) u s at-s in
+      let (o, l, r, p) = operation-at (look (b .circuit)) u s large v in
+      rw (operate-multiply (b .circuit) (b .id) s o l r p (g .tree))
+      (go b g (λ h. ap used (minus-found m h)) (either-order (b .circuit) (g .grew .sound) Multiply (b .id) s (lf (baseLeaf minusOne)) u (g .tree) v))
+    where
+      end : (b : Built) → Got m (lf (baseLeaf minusOne)) b → (HasMinus m → used (b .circuit) ≡ used m) → (t : Shape) → Got (b .circuit) t (eitherOrder (b .circuit) Multiply (b .id) s)
+          → Minus (look (eitherOrder (b .circuit) Multiply (b .id) s .circuit)) u (eitherOrder (b .circuit) Multiply (b .id) s .id) → Negative m u (eitherOrder (b .circuit) Multiply (b .id) s)
+      end b g f t h k =
+          record {
+            grew = grew-more m (b .circuit) (eitherOrder (b .circuit) Multiply (b .id) s .circuit) (g .grew) (h .grew);
+            minus = k;
+            has = minus-kept (b .circuit) (eitherOrder (b .circuit) Multiply (b .id) s .circuit) (h .grew) (b .id, g .tree, g .mark);
+            few = omega (arith, g .few, h .few);
+            then-few = λ z. omega (arith, f z, h .few);
+          }
+
+      go : (b : Built) → Got m (lf (baseLeaf minusOne)) b → (HasMinus m → used (b .circuit) ≡ used m)
+          → Got (b .circuit) (op Multiply (lf (baseLeaf minusOne)) u) (eitherOrder (b .circuit) Multiply (b .id) s) ⊎ Got (b .circuit) (op Multiply u (lf (baseLeaf minusOne))) (eitherOrder (b .circuit) Multiply (b .id) s)
+          → Negative m u (eitherOrder (b .circuit) Multiply (b .id) s)
+      go b g f (inl h) = end b g f (op Multiply (lf (baseLeaf minusOne)) u) h (inl (h .tree))
+      go b g f (inr h) = end b g f (op Multiply u (lf (baseLeaf minusOne))) h (inr (h .tree))
+
+  minus-at : (c : Look) (p : ℕ) → Minus c u p → (o : Op) × (l : ℕ) × (r : ℕ) × (c p ≡ some (opE o l r))
+  minus-at c p (inl (l, r, q, v, w)) = (Multiply, l, r, q)
+  minus-at c p (inr (l, r, q, v, w)) = (Multiply, l, r, q)
+
+  pub subtracted-got : (n : ℕ) (y : Position) → look m n ≡ some (leafE (inputLeaf y)) → Difference m y u (subtracted m n s)
+  unfolding subtracted
+  subtracted-got n y hn =
+      let b : Built = negated m s in
+      let g : Negative m u b = negated-got in
+      let (o, l, r, q) = minus-at (look (b .circuit)) (b .id) (g .minus) in
+      let hn′ : look (b .circuit) n ≡ some (leafE (inputLeaf y)) = g .grew .ext n (leafE (inputLeaf y)) hn in
+      rw (operate-add (b .circuit) n (b .id) o l r q y hn′) (go b g hn′ (g .minus))
+    where
+      done′ : (b : Built) → Negative m u b → (t : Shape) → Got (b .circuit) t (eitherOrder (b .circuit) Add n (b .id)) → Gap (look (eitherOrder (b .circuit) Add n (b .id) .circuit)) y u (eitherOrder (b .circuit) Add n (b .id) .id)
+          → Difference m y u (eitherOrder (b .circuit) Add n (b .id))
+      done′ b g t h k =
+          record {
+            grew = grew-more m (b .circuit) (eitherOrder (b .circuit) Add n (b .id) .circuit) (g .grew) (h .grew);
+            gap = k;
+            has = minus-kept (b .circuit) (eitherOrder (b .circuit) Add n (b .id) .circuit) (h .grew) (g .has);
+            few = omega (arith, g .few, h .few);
+            then-few = λ z. omega (arith, g .then-few z, h .few);
+          }
+
+      end : (b : Built) → Negative m u b → (t : Shape) → Unf (look (b .circuit)) t (b .id) → look (b .circuit) n ≡ some (leafE (inputLeaf y)) → ((c : Look) (p : ℕ) → Unf c t p → Minus c u p)
+          → Difference m y u (eitherOrder (b .circuit) Add n (b .id))
+      end b g t v hn f = go (either-order (b .circuit) (g .grew .sound) Add n (b .id) (lf (inputLeaf y)) t hn v)
+        where
+          go : Got (b .circuit) (op Add (lf (inputLeaf y)) t) (eitherOrder (b .circuit) Add n (b .id)) ⊎ Got (b .circuit) (op Add t (lf (inputLeaf y))) (eitherOrder (b .circuit) Add n (b .id))
+              → Difference m y u (eitherOrder (b .circuit) Add n (b .id))
+          go (inl h) =
+              let (k, p, q, hk, hp) = h .tree in
+              done′ b g (op Add (lf (inputLeaf y)) t) h (sum k p hk (f (look (eitherOrder (b .circuit) Add n (b .id) .circuit)) p hp) q)
+          go (inr h) =
+              let (p, k, q, hp, hk) = h .tree in
+              done′ b g (op Add t (lf (inputLeaf y))) h (swapped k p hk (f (look (eitherOrder (b .circuit) Add n (b .id) .circuit)) p hp) q)
+
+      go : (b : Built) → Negative m u b → look (b .circuit) n ≡ some (leafE (inputLeaf y)) → Minus (look (b .circuit)) u (b .id) → Difference m y u (eitherOrder (b .circuit) Add n (b .id))
+      go b g hn (inl h) = end b g (op Multiply (lf (baseLeaf minusOne)) u) h hn (λ c p w. inl w)
+      go b g hn (inr h) = end b g (op Multiply u (lf (baseLeaf minusOne))) h hn (λ c p w. inr w)
+
+-- the base test on a shape
+pub base-shape : (t : Tree) → isBase t ≡ baseS (shape t)
+unfolding isBase
+base-shape (leaf i a) = refl
+base-shape (branch i o l r) = ap₂ _&&_ (base-shape l) (base-shape r)
+
+-- one substitution of s, whose shape is u, by a new input at y, in a circuit that has no such input
+module _ (m : List ℕ) (sound : Sound m) (s : ℕ) (u : Shape) (large : 3 ≤ deg u) (at-s : Unf (look m) u s) (y : Position) (fresh : (i : ℕ) → look m i ≢ some (leafE (inputLeaf y)))
+    (kind : isMain y ≡ true → baseS u ≡ true) where
+  -- the new input is made
+  pub input-made : findOrMake m (Input y) ≡ built (made m (Input y)) (used m)
+  unfolding findOrMake
+  input-made = go (find m (Input y)) refl
+    where
+      go : (x : Option ℕ) → find m (Input y) ≡ x → orElse x m (built (made m (Input y)) (used m)) ≡ built (made m (Input y)) (used m)
+      go (some i) h = absurd (fresh i (found m sound (Input y) i h))
+      go none h = refl
+
+  one : List ℕ
+  one = made m (Input y)
+
+  two : List ℕ
+  two = redirected one s (used m)
+
+  pub three : Built
+  three = subtracted two (used m) s
+
+  one-sound : Sound one
+  unfolding one
+  one-sound = made-sound m sound (Input y) tt
+
+  one-used : used one ≡ suc (used m)
+  unfolding one
+  one-used = made-used m (Input y) (sound .room)
+
+  one-old : (i : ℕ) (e : Expr) → look m i ≡ some e → look one i ≡ some e
+  unfolding one
+  one-old i e h = look-made-old m (Input y) (sound .room) i (look-lt m i e h) ∙ h
+
+  one-new : look one (used m) ≡ some (leafE (inputLeaf y))
+  unfolding one
+  one-new = look-made-new m (Input y) (sound .room)
+
+  s-old : s < used m
+  s-old = let (e, p) = unf-some (look m) u s at-s in look-lt m s e p
+
+  s-used : s < used one
+  s-used = omega (arith, s-old, one-used)
+
+  move-two : Move (look m) (look two) s (used m) y u
+  unfolding two
+  move-two =
+      record {
+        chosen = at-s;
+        fresh = fresh;
+        old = λ i e h. redirected-kept s (used m) one (one-sound .room) s-used i e (one-old i e h);
+        new = let (e, p, k) = redirected-kept s (used m) one (one-sound .room) s-used (used m) (leafE (inputLeaf y)) one-new in p ∙ ap some k;
+      }
+
+  two-used : used two ≡ suc (used m)
+  unfolding two
+  two-used = redirected-used s (used m) one (one-sound .room) s-used ∙ one-used
+
+  two-room : 2 + 6 * used two ≤ length two
+  unfolding two
+  two-room = redirected-room s (used m) one (one-sound .room) s-used
+
+  two-sound : Sound two
+  two-sound = record { room = two-room; whole = λ i h. go i (omega (arith, two-used)) (ℕ-discrete i (used m)) }
+    where
+      go : (i : ℕ) → i < suc (used m) → Dec (i ≡ used m) → (t : Shape) × Unf (look two) t i
+      go i h (yes p) = (lf (inputLeaf y), rw p (move-two .new))
+      go i h (no q) =
+          let (t, w) = sound .whole i (omega arith) in
+          let (t′, w′, k) = tree-after move-two t i w in
+          (t′, w′)
+
+  two-s : Unf (look two) u s
+  two-s = tree-stays move-two u s (omega arith) at-s
+
+  difference : Difference two y u three
+  unfolding three
+  difference = subtracted-got two two-sound s u large two-s (used m) y (move-two .new)
+
+  grew-three : Grew two (three .circuit)
+  grew-three = difference .grew
+
+  pub three-sound : Sound (three .circuit)
+  three-sound = grew-three .sound
+
+  one-mark : (i : ℕ) → i < used m → registered one i ≡ registered m i
+  unfolding one
+  one-mark i h = ap (λ (x : Node). x .registered) (made-old m (Input y) (sound .room) i h)
+
+  two-mark : (i : ℕ) → i ≢ s → registered two i ≡ registered one i
+  unfolding two
+  two-mark i h = redirected-mark s (used m) one (one-sound .room) s-used i h
+
+  two-turned : (i : ℕ) (e : Expr) → registered m i ≡ true → i ≢ s → look m i ≡ some e → look two i ≡ some (redirE s (used m) e)
+  unfolding two
+  two-turned i e g q h = redirected-turned s (used m) one (one-sound .room) s-used i e (one-mark i (look-lt m i e h) ∙ g) q (one-old i e h)
+
+  new-mark : registered one (used m) ≡ true
+  unfolding one
+  new-mark = made-mark m (Input y) (sound .room)
+
+  pub stepped : Stepped (look m) (look (three .circuit)) (λ i. registered m i) (λ i. registered (three .circuit) i) s (used m) y (three .id) u
+  stepped =
+      record {
+        step =
+            record {
+              move =
+                  record {
+                    chosen = at-s;
+                    fresh = fresh;
+                    old = λ i e h. let (e′, p, k) = move-two .old i e h in (e′, grew-three .ext i e′ p, k);
+                    new = grew-three .ext (used m) (leafE (inputLeaf y)) (move-two .new);
+                  };
+              gap = difference .gap;
+              large = large;
+              kind = kind;
+            };
+        turned = λ i e g q h. grew-three .ext i (redirE s (used m) e) (two-turned i e g q h);
+        marks = λ i e p g q. grew-three .marks i (omega (arith, two-used, look-lt m i e p)) ∙ two-mark i q ∙ one-mark i (look-lt m i e p) ∙ g;
+        mark-new = grew-three .marks (used m) (omega (arith, two-used)) ∙ two-mark (used m) (λ e. omega (arith, s-old)) ∙ new-mark;
+      }
+
+  -- the only new input is the one at y
+  pub inputs-after : (i : ℕ) (q : Position) → look (three .circuit) i ≡ some (leafE (inputLeaf q)) → (look m i ≡ some (leafE (inputLeaf q))) ⊎ (q ≡ y)
+  unfolding one two
+  inputs-after i q h =
+      let k : look one i ≡ some (leafE (inputLeaf q)) = redirected-leaf s (used m) one (one-sound .room) s-used i (inputLeaf q) (grew-three .inputs i q h) in
+      ⊎-elim (λ z. inl z) (λ z. inr (let e : leafE (inputLeaf q) ≡ leafE (inputLeaf y) = z .1 in cc)) (look-made-back m (Input y) (sound .room) i (leafE (inputLeaf q)) k)
+
+  -- how many nodes it takes, and where they lie
+  pub four-more : used (three .circuit) ≤ 4 + used m
+  four-more = omega (arith, difference .few, two-used)
+
+  minus-two : HasMinus m → HasMinus two
+  minus-two (j, h, k) =
+      let h₁ : look one j ≡ some (leafE (baseLeaf minusOne)) = one-old j (leafE (baseLeaf minusOne)) h in
+      let (e, p, q) = move-two .old j (leafE (baseLeaf minusOne)) h in
+      (j, p ∙ ap some q, two-mark j other ∙ one-mark j (look-lt m j (leafE (baseLeaf minusOne)) h) ∙ k)
+    where
+      other : j ≢ s
+      other e =
+          let (o, l, r, p) = operation-at (look m) u s large at-s in
+          let h′ : look m s ≡ some (leafE (baseLeaf minusOne)) = rw e at h in
+          let z : _≡_ {A = ℕ} 0 1 = cc in
+          omega arith
+
+  pub three-more : HasMinus m → used (three .circuit) ≤ 3 + used m
+  three-more h = omega (arith, difference .then-few (minus-two h), two-used)
+
+  pub has-minus : HasMinus (three .circuit)
+  has-minus = difference .has
+
+  pub nodes-grow : used m ≤ used (three .circuit)
+  nodes-grow = omega (arith, grew-three .more, two-used)
+
+  one-proper : column y ≤ 65535 → isNext y ≡ false → Proper m → Proper one
+  unfolding one
+  one-proper c q h = made-proper m (sound .room) (Input y) (λ x e. let z : inputLeaf y ≡ x = cc in rw (← z, le-ltb 65535 (column y) c, q)) h
+
+  two-proper : Proper one → Proper two
+  unfolding two
+  two-proper h = redirected-proper s (used m) one (one-sound .room) s-used h
+
+  -- it keeps what NOT_CIRCUIT asks, if the column is in bounds
+  pub three-proper : column y ≤ 65535 → isNext y ≡ false → Proper m → Proper (three .circuit)
+  three-proper c q h = grew-three .proper (two-proper (one-proper c q h))
+
+  two-length : length two ≡ length one
+  unfolding two
+  two-length = redirected-length s (used m) one (one-sound .room) s-used
+
+  one-length : 2 + 6 * suc (used m) ≤ length m → length one ≡ length m
+  unfolding one
+  one-length h = made-length m (Input y) (sound .room) h
+
+  pub lies-in : 2 + 6 * used (three .circuit) ≤ length m → length (three .circuit) ≡ length m
+  lies-in h =
+      let e : length one ≡ length m = one-length (omega (arith, grew-three .more, two-used)) in
+      grew-three .in-place (omega (arith, two-length)) ∙ two-length ∙ e
+
+  -- the definition, with the new input made
+  pub substituted-is : (mc ac : ℕ) (b : Bool) (x : Lowering) → x .circuit ≡ m → isBase (tree m s) ≡ b → (if b then Main (mc + length (x .main)) else Aux (ac + length (x .aux))) ≡ y
+      → substituted mc ac x s
+      ≡ record {
+        circuit = three .circuit;
+        roots = map (renamed s (used m)) (x .roots);
+        main = x .main ++ (if b then three .id ∷ [] else []);
+        aux = x .aux ++ (if b then [] else three .id ∷ []);
+      }
+  unfolding substituted three two one
+  substituted-is mc ac b x h g e = rw (h, g, e, input-made)

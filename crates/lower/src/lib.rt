@@ -1,0 +1,7 @@
+// Lowering: document 01, "Lowering".
+
+// How many main and auxiliary constraints a lowering added, or the number of its refusal.
+pub enum Lowered {
+    Counts(u64, u64),
+    Refused(u64),
+}
