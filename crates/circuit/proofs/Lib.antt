@@ -5,6 +5,8 @@ pub mod Places
 pub mod Marks
 pub mod Visits
 pub mod Checks
+pub mod Refusals
+pub mod Unique
 pub mod Lists
 pub mod Trees
 pub mod Cycle

@@ -123,3 +123,9 @@ found-one p n (some i) (some j) f g = ap some (one (decLt i j) (decLt j i))
 -- so what is the first is found
 pub first-is : (p : ℕ → Bool) (n : ℕ) (r : Option ℕ) → Found p n r → first p (upTo n) ≡ r
 first-is p n r f = found-one p n (first p (upTo n)) r (first-found p n) f
+
+-- tests that agree below n have one first
+pub first-same : (p q : ℕ → Bool) (n : ℕ) → ((i : ℕ) → i < n → p i ≡ q i) → first p (upTo n) ≡ first q (upTo n)
+unfolding first upTo
+first-same p q zero h = refl
+first-same p q (suc n) h = rw (first-more p n, first-more q n, h n (omega arith), first-same p q n (λ i l. h i (omega arith)))

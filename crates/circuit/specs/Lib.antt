@@ -7,6 +7,7 @@ pub mod Outcomes
 pub mod Calls
 pub mod Rank
 pub mod Walk
+pub mod Answers
 pub mod Cycle
 pub mod Computing
 pub mod Samples

@@ -4,12 +4,12 @@ use crate::node::Position;
 use crate::place::column_of;
 use crate::place::expression_at;
 use field::extension::Triple;
+use field::extension::unlifts;
 ghost use mathlib.Core.Path.{_≡_};
 ghost use mathlib.Core.Logic.{_≢_};
 ghost use mathlib.Core.Bool.{false};
 ghost use Prim.Native.Nat.{_+_, _<_, _≤_};
 ghost use lib.ListN.{length};
-ghost use Rattle.field.specs.Extension.{unlifts};
 ghost use Rattle.circuit.specs.Lists.{any, upTo};
 ghost use Rattle.circuit.specs.Words.{used, limit, offset, isNext};
 ghost use Rattle.circuit.specs.NotCircuit.{badRow, badIndex, badWord, badWords, badExpression, badNode, badHeader};
@@ -103,16 +103,6 @@ pub fn bad_words(x: Triple) -> bool
     bad_word(x.c2)
 }
 
-// A triple that is a base field element.
-fn is_lifted(x: Triple) -> bool
-    ensures { λ r. ⌜ r ≡ unlifts x ⌝ }
-{
-    if x.c1 == 0 {
-        return x.c2 == 0;
-    }
-    false
-}
-
 // What an expression has wrong, where it is a node's.
 pub fn bad_expression(m: &[u64], e: Expression) -> bool
     requires { ⌜ 2 ≤ length (now m) ⌝ }
@@ -124,7 +114,7 @@ pub fn bad_expression(m: &[u64], e: Expression) -> bool
             if bad_words(x) {
                 return true;
             }
-            is_lifted(x)
+            unlifts(x)
         }
         Expression::Challenge(k) => bad_index(k),
         Expression::Operation(_, l, r) => {

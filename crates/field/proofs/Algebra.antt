@@ -14,7 +14,7 @@ unfolding plus add
 lift-plus a b = refl
 
 -- a lifted number times y
-lift-by : (k : ℕ) (y : Triple) → times (lift k) y ≡ triple (multiply k (y .c0)) (multiply k (y .c1)) (multiply k (y .c2))
+pub lift-by : (k : ℕ) (y : Triple) → times (lift k) y ≡ triple (multiply k (y .c0)) (multiply k (y .c1)) (multiply k (y .c2))
 unfolding times coefficients folded add multiply subtract
 lift-by k y = simp (zero-mul, add-zero, mod-mod, add-mod-right)
 

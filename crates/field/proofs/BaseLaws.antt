@@ -35,14 +35,15 @@ pub multiply-one-left : (a : ℕ) → a < p → multiply 1 a ≡ a
 unfolding multiply
 multiply-one-left a h = ap (λ (n : ℕ). n % p) (one-mul a) ∙ mod-eq-of-lt h
 
+-- -1 times a remainder
+pub minus-mod : (x b : ℕ) → (x + minusOne * (b % p)) % p ≡ (x + minusOne * b) % p
+minus-mod x b = sym (add-mod-mod x (minusOne * (b % p)) p) ∙ ap (λ (n : ℕ). (x + n) % p) (mul-mod minusOne b p) ∙ add-mod-mod x (minusOne * b) p
+
 -- taking b away is adding -1 times b: over the numbers first, for the extension's laws too
 pub away : (x b : ℕ) → (x + (p - b % p)) % p ≡ (x + minusOne * b) % p
 away x b =
     let h : b % p < p = omega arith in
-    mod-eq p (x + (p - b % p)) (x + minusOne * (b % p)) (b % p) 1 (omega arith)
-    ∙ sym (add-mod-mod x (minusOne * (b % p)) p)
-    ∙ ap (λ (n : ℕ). (x + n) % p) (mul-mod minusOne b p)
-    ∙ add-mod-mod x (minusOne * b) p
+    mod-eq p (x + (p - b % p)) (x + minusOne * (b % p)) (b % p) 1 (omega arith) ∙ minus-mod x b
 
 pub subtract-is : (a b : ℕ) → subtract a b ≡ add a (multiply minusOne b)
 unfolding subtract add multiply
@@ -69,3 +70,21 @@ nothing b h =
 -- a + (-1)·b is 0 exactly when a is b
 pub zero-exactly : (a b : ℕ) → a < p → b < p → (add a (multiply minusOne b) ≡ 0) ↔ (a ≡ b)
 zero-exactly a b ha hb = (λ e. only a b ha hb (subtract-is a b ∙ e), λ e. sym (subtract-is a b) ∙ ap (λ (n : ℕ). subtract n b) e ∙ nothing b hb)
+
+-- each operation's answer is its own remainder
+
+pub canonical-add : (a b : ℕ) → add a b < p
+unfolding add
+canonical-add a b = omega arith
+
+pub canonical-multiply : (a b : ℕ) → multiply a b < p
+unfolding multiply
+canonical-multiply a b = omega arith
+
+pub canonical-negate : (b : ℕ) → negate b < p
+unfolding negate
+canonical-negate b = omega arith
+
+pub canonical-subtract : (a b : ℕ) → subtract a b < p
+unfolding subtract
+canonical-subtract a b = omega arith

@@ -25,7 +25,7 @@ use Rattle.circuit.specs.Tree.{Leaf, baseLeaf, extensionLeaf, challengeLeaf, in
 use Rattle.circuit.specs.NotCircuit.{badId, badNode, goesOn, badHeader, notCircuit}
 use Rattle.circuit.specs.Outcomes.{refusal, numbered, outcome}
 use Rattle.read.specs.Readings.{degree⁺, Assignment, inputValue, leafValue, value}
-use Rattle.read.specs.Refusals.{noRoom}
+use Rattle.paths.specs.Refusals.{noRoom}
 use Rattle.lower.specs.Lowering.{Lowering, belowAbove, M, tooHigh, loop, lowered}
 use Rattle.lower.specs.Refusals.{atOrAbove, inputAtOrAbove, badColumns, loose, fullLowering}
 use Rattle.lower.specs.Calls.{testsFirst, testsThen, lowerCall, returned}

@@ -7,7 +7,8 @@ use lib.Dec.{ltb}
 use Rattle.circuit.specs.Lists.{if_then_else_, written}
 use Rattle.circuit.specs.NotCircuit.{notCircuit, badId}
 use Rattle.circuit.specs.Outcomes.{Outcome, outcome}
-use Rattle.read.specs.Refusals.{overDegree, noRoom}
+use Rattle.paths.specs.Refusals.{noRoom}
+use Rattle.read.specs.Refusals.{overDegree}
 use Rattle.lower.specs.Lowering.{Lowering, M, tooHigh, lowered}
 use Rattle.lower.specs.Refusals.{fullLowering, badColumns, loose, overOccurrences}
 

@@ -9,7 +9,7 @@ use Rattle.circuit.specs.declared.node.Op.{Op}
 use Rattle.circuit.specs.Outcomes.{Outcome}
 use Rattle.circuit.specs.Calls.{startCall}
 use Rattle.build.specs.Calls.{inputCall, challengeCall, baseCall, extensionCall, operationCall, subtractCall, negateCall, sumCall}
-use Rattle.read.specs.Calls.{countCall}
+use Rattle.paths.specs.Calls.{countCall}
 use Rattle.lower.specs.Lowering.{Lowering}
 use Rattle.lower.specs.Calls.{lowerCall}
 

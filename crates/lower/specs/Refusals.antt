@@ -9,7 +9,8 @@ use Rattle.circuit.specs.declared.node.Expression.{Expression}
 use Rattle.circuit.specs.declared.node.Expression.the-variants.{Base, Extension, Challenge, Operation, Input}
 use Rattle.circuit.specs.Lists.{upTo, any}
 use Rattle.circuit.specs.Words.{used, limit, expressionAt, registered}
-use Rattle.read.specs.Readings.{above, walks, paths}
+use Rattle.paths.specs.Paths.{walks, paths}
+use Rattle.read.specs.Readings.{above}
 use Rattle.lower.specs.Lowering.{belowAbove, M}
 
 -- 6: in lowering, fewer than 3·M free

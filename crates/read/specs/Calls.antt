@@ -1,21 +1,20 @@
--- The public calls that read: the order of the tests, what is answered, and what is lent afterwards. Assumes nothing.
+-- The public calls that read: the order of the tests, and what is answered. They change nothing. Assumes nothing.
 use Prim.Native.Nat.{ℕ, _+_, _*_, _/_}
-use mathlib.Core.Bool.{Bool, false, _||_}
+use mathlib.Core.Bool.{Bool, false}
 use mathlib.Core.List.{List, [], _∷_, _++_}
-use lib.ListN.{length, getD, set, drop, replicate}
+use lib.ListN.{length, getD, drop}
 use lib.IntN.{ℤ, pos}
-use lib.Dec.{ltb}
 use Rattle.field.specs.declared.extension.Triple.{Triple}
 use Rattle.field.specs.Base.{minusOne}
 use Rattle.field.specs.Extension.{triple}
-use Rattle.circuit.specs.Lists.{if_then_else_, upTo, any, each, written}
-use Rattle.circuit.specs.Words.{used, offset, isConstant}
+use Rattle.circuit.specs.Lists.{any}
+use Rattle.circuit.specs.Words.{isConstant}
 use Rattle.circuit.specs.Tree.{tree}
-use Rattle.circuit.specs.NotCircuit.{badWord, notCircuit, badId}
-use Rattle.circuit.specs.Outcomes.{Outcome, outcome}
+use Rattle.circuit.specs.NotCircuit.{badWord}
+use Rattle.circuit.specs.Outcomes.{Outcome}
 use Rattle.circuit.specs.Calls.{reading}
-use Rattle.read.specs.Readings.{Assignment, degree⁺, signed, highest⁺, isBase, value, walk, walks, paths, visible, countsUnder}
-use Rattle.read.specs.Refusals.{overDegree, overPaths, noRoom, repeated, badTable}
+use Rattle.read.specs.Readings.{Assignment, degree⁺, signed, highest⁺, isBase, value, visible}
+use Rattle.read.specs.Refusals.{overDegree, badTable}
 
 -- THE TESTS for 0, 1 and -1
 unfoldable pub constantCall : ℕ → List ℕ → ℕ → Outcome Bool (Unit {0})
@@ -67,28 +66,6 @@ evaluateCall m i main aux challenges =
     reading m (i ∷ []) ((15, badTable m i main aux challenges) ∷ (5, any badWord (main ++ aux ++ challenges)) ∷ [])
     (value (assigned main aux challenges) (tree m i)) (triple 0 0 0)
 
--- WALK, of each root after the other: how many ids; the list and the stack. The stack ends zero up to the used count, untouched beyond
-unfoldable pub walkCall : List ℕ → List ℕ → List ℕ → List ℕ → Outcome ℕ (List ℕ × List ℕ)
-walkCall m roots list stack =
-    let ids = walks m roots in
-    outcome ((1, notCircuit m) ∷ (2, badId m roots) ∷ (13, noRoom list (length ids) || noRoom stack (used m)) ∷ [])
-    (length ids) (written ids list, written (replicate (used m) 0) stack) 0 (list, stack)
-
 -- VISIBLE NODES: how many
 unfoldable pub visibleCall : List ℕ → List ℕ → Outcome ℕ (Unit {0})
 visibleCall m roots = reading m roots [] (visible m roots) 0
-
--- REFERENCE COUNTS: each node below the roots gets the number of paths from the roots to it; others keep theirs
-unfoldable pub counted : List ℕ → List ℕ → List ℕ
-counted m roots = each (λ x i. if ltb 0 (paths m roots i) then set x (offset i + 5) (paths m roots i) else x) m (upTo (used m))
-
--- reference counts test 1, 2, 14, 12
-unfoldable pub countCall : List ℕ → List ℕ → Outcome (Unit {0}) (List ℕ)
-countCall m roots =
-    outcome ((1, notCircuit m) ∷ (2, badId m roots) ∷ (14, repeated m roots) ∷ (12, overPaths m roots) ∷ []) tt (counted m roots) tt m
-
--- the sorted distinct counts under an id: how many, and the list
-unfoldable pub countsCall : List ℕ → ℕ → List ℕ → Outcome ℕ (List ℕ)
-countsCall m i list =
-    let counts = countsUnder m i in
-    outcome ((1, notCircuit m) ∷ (2, badId m (i ∷ [])) ∷ (13, noRoom list (length counts)) ∷ []) (length counts) (written counts list) 0 list

@@ -2,7 +2,6 @@
 use Prim.Native.Nat.{ℕ, suc, _-_}
 use mathlib.Core.Bool.{Bool}
 use mathlib.Core.List.{List, [], _∷_, _++_, map}
-use lib.ListN.{replicate}
 use lib.IntN.{ℤ, pos, negsuc}
 use lib.Dec.{T}
 use Rattle.field.specs.declared.extension.Triple.{Triple}
@@ -13,10 +12,9 @@ use Rattle.circuit.specs.declared.node.Op.the-variants.{Add, Multiply}
 use Rattle.circuit.specs.declared.node.Expression.{Expression}
 use Rattle.circuit.specs.declared.node.Expression.the-variants.{Base, Extension, Challenge, Operation, Input}
 use Rattle.circuit.specs.Lists.{agree, bit, each}
-use Rattle.circuit.specs.Words.{nodeAt}
 use Rattle.circuit.specs.Outcomes.{Outcome}
-use Rattle.circuit.specs.Samples.{sample, damage, loosen}
-use Rattle.read.specs.Calls.{isZeroCall, isOneCall, isMinusOneCall, degreeCall, highestCall, baseTestCall, evaluateCall, walkCall, visibleCall, countCall, countsCall}
+use Rattle.circuit.specs.Samples.{sample, loosen}
+use Rattle.read.specs.Calls.{isZeroCall, isOneCall, isMinusOneCall, degreeCall, highestCall, baseTestCall, evaluateCall, visibleCall}
 use Rattle.read.specs.Computing.{readComputes}
 
 -- a sign, 0 or 1, and a size; -1 is 1 ∷ 1 ∷ []
@@ -53,18 +51,8 @@ table =
     -- evaluation tests 1, 2, 15, 5
     ∷ (map (λ main. evaluateCall dual 4 main [] [] .number) ((3 ∷ 10 ∷ 4 ∷ []) ∷ (3 ∷ 4 ∷ []) ∷ (3 ∷ 10 ∷ p ∷ 7 ∷ []) ∷ (3 ∷ p ∷ []) ∷ []), 15 ∷ 15 ∷ 5 ∷ 15 ∷ [])
     ∷ (evaluateCall dual 8 [] [] [] .number ∷ evaluateCall seven 6 (5 ∷ []) [] (0 ∷ 0 ∷ 0 ∷ []) .number ∷ evaluateCall seven 0 (5 ∷ []) [] (0 ∷ []) .number ∷ evaluateCall seven 0 (5 ∷ []) (p ∷ 0 ∷ 0 ∷ []) [] .number ∷ [], 2 ∷ 15 ∷ 15 ∷ 5 ∷ [])
-    -- walk: left subtree, node, right subtree; places beyond the answer aren't written; the stack ends zero up to the used count
-    ∷ (walkCall seven (2 ∷ 3 ∷ []) (9 ∷ 9 ∷ 9 ∷ 9 ∷ 9 ∷ 9 ∷ 9 ∷ []) (replicate 8 8) .lent .0, 0 ∷ 1 ∷ 0 ∷ 2 ∷ 0 ∷ 3 ∷ 9 ∷ [])
-    ∷ (walkCall seven (2 ∷ 3 ∷ []) (9 ∷ 9 ∷ 9 ∷ 9 ∷ 9 ∷ 9 ∷ 9 ∷ []) (replicate 8 8) .lent .1, 0 ∷ 0 ∷ 0 ∷ 0 ∷ 0 ∷ 0 ∷ 0 ∷ 8 ∷ [])
-    ∷ (walkCall seven (2 ∷ []) (replicate 4 9) (replicate 7 8) .number ∷ walkCall seven (2 ∷ []) (replicate 5 9) (replicate 6 8) .number ∷ walkCall seven (2 ∷ []) (replicate 5 9) (replicate 7 8) .number ∷ [], 13 ∷ 13 ∷ 0 ∷ [])
     -- visible nodes: a loose node and an equal rebuilt one count once
     ∷ (visibleCall seven (2 ∷ 6 ∷ []) .values ∷ visibleCall seven [] .values ∷ visibleCall (loosen 1 (sample 1 0 (Input (Main 0) ∷ Operation Multiply 0 0 ∷ Operation Multiply 0 0 ∷ Operation Add 1 2 ∷ []))) (3 ∷ []) .values ∷ [], 5 ∷ 0 ∷ 3 ∷ [])
-    -- reference counts: paths from the roots; others keep theirs; a root named twice or below another is a repeated id
-    ∷ (map (λ i. nodeAt (countCall (damage 6 5 77 seven) (2 ∷ 3 ∷ []) .lent) i .references) (0 ∷ 1 ∷ 2 ∷ 3 ∷ 6 ∷ []), 3 ∷ 1 ∷ 1 ∷ 1 ∷ 77 ∷ [])
-    ∷ (map (λ roots. countCall seven roots .number) ((1 ∷ 1 ∷ []) ∷ (1 ∷ 0 ∷ []) ∷ (7 ∷ []) ∷ [] ∷ []), 14 ∷ 14 ∷ 2 ∷ 0 ∷ [])
-    -- the sorted distinct counts under an id
-    ∷ (countsCall (damage 0 5 7 (damage 1 5 2 seven)) 2 (9 ∷ 9 ∷ 9 ∷ 9 ∷ []) .lent, 0 ∷ 2 ∷ 7 ∷ 9 ∷ [])
-    ∷ (countsCall (damage 0 5 7 (damage 1 5 2 seven)) 2 (9 ∷ 9 ∷ []) .number ∷ countsCall seven 2 (9 ∷ []) .values ∷ [], 13 ∷ 1 ∷ [])
     ∷ []
 
 pub examples : T (agree table)

@@ -1,7 +1,7 @@
 -- Document 01, "Readings": each worked out from its two operands' own answers, on the tree. Assumes nothing.
-use Prim.Native.Nat.{ℕ, zero, suc, _+_, _-_, max}
+use Prim.Native.Nat.{ℕ, zero, suc, _+_, max}
 use mathlib.Core.Bool.{Bool, true, false, _&&_}
-use mathlib.Core.List.{List, [], _∷_, _++_, map, foldr}
+use mathlib.Core.List.{List, map, foldr}
 use lib.ListN.{length}
 use lib.IntN.{ℤ, pos, negsuc}
 use lib.Dec.{ltb, eqb}
@@ -10,9 +10,10 @@ use Rattle.field.specs.Extension.{lift, sameTriple}
 use Rattle.circuit.specs.declared.node.Position.{Position}
 use Rattle.circuit.specs.declared.node.Position.the-variants.{Main, Aux, NextMain, NextAux}
 use Rattle.circuit.specs.declared.node.Op.the-variants.{Add, Multiply}
-use Rattle.circuit.specs.Lists.{if_then_else_, distinct, count, insert}
-use Rattle.circuit.specs.Words.{nodeAt, isMain, apply}
+use Rattle.circuit.specs.Lists.{if_then_else_, distinct}
+use Rattle.circuit.specs.Words.{isMain, apply}
 use Rattle.circuit.specs.Tree.{Leaf, baseLeaf, extensionLeaf, challengeLeaf, inputLeaf, Tree, leaf, branch, tree, same}
+use Rattle.paths.specs.Paths.{walks}
 
 -- DEGREE, as a number one higher, so that -1 is 0: a zero constant -1, other constants and challenges 0, input 1
 abbrev pub leafDegree⁺ : Leaf → ℕ
@@ -85,24 +86,6 @@ unfoldable pub value : Assignment → Tree → Triple
 value s (leaf i a) = leafValue s a
 value s (branch i o l r) = apply o (value s l) (value s r)
 
--- WALK: left subtree, node, right subtree, repeated along each path
-unfoldable pub walk : Tree → List ℕ
-walk (leaf i a) = i ∷ []
-walk (branch i o l r) = walk l ++ (i ∷ walk r)
-
--- the walks from the roots, one after the other: the nodes below the roots, roots included, once for each path
-unfoldable pub walks : List ℕ → List ℕ → List ℕ
-walks m [] = []
-walks m (r ∷ rs) = walk (tree m r) ++ walks m rs
-
--- the paths from the roots to node i
-unfoldable pub paths : List ℕ → List ℕ → ℕ → ℕ
-paths m roots i = count i (walks m roots)
-
 -- VISIBLE NODES: structural classes below a list of roots, roots included
 unfoldable pub visible : List ℕ → List ℕ → ℕ
 visible m roots = length (distinct same (map (tree m) (walks m roots)))
-
--- REFERENCE COUNTS: the sorted distinct counts under an id
-unfoldable pub countsUnder : List ℕ → ℕ → List ℕ
-countsUnder m i = foldr insert [] (map (λ j. nodeAt m j .references) (walk (tree m i)))

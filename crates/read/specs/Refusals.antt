@@ -3,30 +3,19 @@ use Prim.Native.Nat.{ℕ, _*_, _/_, _%_}
 use mathlib.Core.Bool.{Bool, false, _&&_, _||_, not}
 use mathlib.Core.List.{List}
 use lib.ListN.{length}
-use lib.Dec.{ltb, leb, eqb}
+use lib.Dec.{leb, eqb}
 use Rattle.circuit.specs.declared.node.Position.{Position}
 use Rattle.circuit.specs.declared.node.Expression.{Expression}
 use Rattle.circuit.specs.declared.node.Expression.the-variants.{Base, Extension, Challenge, Operation, Input}
-use Rattle.circuit.specs.Lists.{if_then_else_, upTo, any}
-use Rattle.circuit.specs.Words.{rowKind, used, expressionAt, isMain, column}
+use Rattle.circuit.specs.Lists.{if_then_else_, any}
+use Rattle.circuit.specs.Words.{rowKind, expressionAt, isMain, column}
 use Rattle.circuit.specs.Tree.{tree}
-use Rattle.read.specs.Readings.{above, walk, walks, paths}
+use Rattle.paths.specs.Paths.{walk, walks}
+use Rattle.read.specs.Readings.{above}
 
 -- 11: the node asked, a root, or a node below either has a degree over the bound
 unfoldable pub overDegree : List ℕ → List ℕ → Bool
 overDegree m roots = any (above 2147483647 m) (walks m roots)
-
--- 12: reference counts: a count over the bound
-unfoldable pub overPaths : List ℕ → List ℕ → Bool
-overPaths m roots = any (λ i. ltb 4294967295 (paths m roots i)) (upTo (used m))
-
--- 13: a list too short
-abbrev pub noRoom : List ℕ → ℕ → Bool
-noRoom list needed = ltb (length list) needed
-
--- 14: a root named twice, or lying below another root: more than one path from the roots leads to it
-unfoldable pub repeated : List ℕ → List ℕ → Bool
-repeated m roots = any (λ r. ltb 1 (paths m roots r)) roots
 
 -- how many columns a lent row has: a main table is one word a column, an auxiliary table three; the row kind is the number of rows
 unfoldable pub columnsLent : List ℕ → List ℕ → List ℕ → Position → ℕ

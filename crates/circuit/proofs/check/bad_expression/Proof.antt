@@ -11,7 +11,7 @@ use Rattle.circuit.proofs.check.bad_index.Reads as bad-index-reads
 use Rattle.circuit.proofs.check.bad_row.Reads as bad-row-reads
 use Rattle.circuit.proofs.check.bad_word.Reads as bad-word-reads
 use Rattle.circuit.proofs.check.bad_words.Reads as bad-words-reads
-use Rattle.circuit.proofs.check.is_lifted.Reads as is-lifted-reads
+use Rattle.field.proofs.extension.unlifts.Reads as unlifts-reads
 use Rattle.circuit.proofs.place.column_of.Reads as column-of-reads
 
 -- src/check.rt:121:26
@@ -36,8 +36,8 @@ unfolding badExpression
 returns c = rw (c .before .before .before .e2 .given .1, sym (c .before .bad-words .ensures) ∙ c .if1 .taken)
 
 -- src/check.rt:126:13
-is-lifted-requires : tie.Need-is-lifted-requires
-is-lifted-requires c κs = search needs
+unlifts-requires : tie.Need-unlifts-requires
+unlifts-requires c κs = search needs
 
 -- src/check.rt:128:31
 enum-known-e-3 : tie.Need-enum-known-e-3
@@ -89,7 +89,7 @@ returns-4 c = rw (c .before .before .e .given .1) (c .bad-word .ensures)
 -- src/check.rt:116:1
 returns-5 : tie.Need-returns-5
 unfolding badExpression
-returns-5 c = rw (c .before .before .before .before .e2 .given .1, sym (c .before .before .bad-words .ensures) ∙ c .before .if1 .left) (c .is-lifted .ensures)
+returns-5 c = rw (c .before .before .before .before .e2 .given .1, sym (c .before .before .bad-words .ensures) ∙ c .before .if1 .left) (c .unlifts .ensures)
 
 -- src/check.rt:116:1
 returns-6 : tie.Need-returns-6
@@ -115,7 +115,7 @@ bad-expression-spec =
     enum-known-e-2
     bad-words-requires
     returns
-    is-lifted-requires
+    unlifts-requires
     enum-known-e-3
     bad-index-requires
     enum-known-e-4
