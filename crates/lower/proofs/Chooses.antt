@@ -254,17 +254,33 @@ module _ (T : ℕ) (two : 2 ≤ T) (m : List ℕ) (rs : List ℕ) (rooted : Root
       let hr : In r (belowAbove T m rs) = in-high m rs rooted T r (root a) (omega (arith, degree-is m t r w)) in
       (i, rw candidates-are (map-into one i (keep fits (upTo (used m))) k), below-paths m (belowAbove T m rs) high-rooted i (below-more (look m) (belowAbove T m rs) r (root hr) i (ch .below)))
 
-  -- the best candidate may be chosen
-  pub best-choice : (u : Shape) × Choice T (look m) rs (best (candidates T m rs)) u
-  unfolding one fits
-  best-choice =
+  -- the best candidate is a used node of fit degree that occurs below a high node
+  record Best (j : ℕ) : Type 0 where
+    fit : In j (keep fits (upTo (used m)))
+    is : best (candidates T m rs) ≡ j
+    occurs : 0 < paths m (belowAbove T m rs) j
+
+  best-is : (j : ℕ) × Best j
+  unfolding one
+  best-is =
       let (i, a, b) = some-candidate in
       let (c, d, e, f) = best-in (candidates T m rs) (one i) a in
       let (j, k, q) = map-from one c (keep fits (upTo (used m))) (subst (λ (l : List Candidate). In c l) candidates-are d) in
-      let (_, ok) = in-keep fits (upTo (used m)) j k in
+      (j, record { fit = k; is = e ∙ ap (λ (x : Candidate). x .id) q; occurs = omega (arith, ap (λ (x : Candidate). x .occurrences) q) })
+
+  -- the node chosen has at least one occurrence
+  pub chosen-occurs : 0 < paths m (belowAbove T m rs) (best (candidates T m rs))
+  chosen-occurs = let (j, b) = best-is in rw (b .is) (b .occurs)
+
+  -- the best candidate may be chosen
+  pub best-choice : (u : Shape) × Choice T (look m) rs (best (candidates T m rs)) u
+  unfolding fits
+  best-choice =
+      let (j, b) = best-is in
+      let (_, ok) = in-keep fits (upTo (used m)) j (b .fit) in
       let (p₁, p₂) = and-true (above 1 m j) (not (above T m j)) ok in
-      let s : best (candidates T m rs) ≡ j = e ∙ ap (λ (x : Candidate). x .id) q in
-      let occ : 0 < paths m (belowAbove T m rs) j = omega (arith, ap (λ (x : Candidate). x .occurrences) q) in
+      let s : best (candidates T m rs) ≡ j = b .is in
+      let occ : 0 < paths m (belowAbove T m rs) j = b .occurs in
       let bj : Below (look m) (belowAbove T m rs) j = paths-below m (belowAbove T m rs) high-rooted j occ in
       let below : Below (look m) rs j = go j bj in
       let (u, w) = below-tree rooted j below in

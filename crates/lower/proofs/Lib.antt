@@ -11,10 +11,16 @@ pub mod Words
 pub mod Made
 pub mod Redirects
 pub mod Finds
+pub mod Constraints
 pub mod Substitutes
 pub mod Chooses
+pub mod OneMore
 pub mod Loops
+pub mod Assignments
+pub mod Fills
+pub mod Accepts
 pub mod Theorem
+pub mod Fits
 pub mod Example
 pub mod Tables
 pub mod Proper
