@@ -170,12 +170,7 @@ pub folds : (w : Wide) (t : ℕ) → Difference (w .low) (w .high / 2 ^ 32 + w .
 unfolding value
 folds w t d = rw (← above-low (w .top) (w .high)) (folded _ _ _ (rw (above (w .top) (w .high)) d))
 
--- a sum of products may be reduced once
-
-pub two-reduced : (x y : ℕ) → (x + y) % p ≡ add (x % p) (y % p)
-unfolding add
-two-reduced x y = simp (mod-add-mod, add-mod-mod)
-
+-- a sum of products may be reduced once; for two that is `add-reduced`
 pub three-reduced : (x y z : ℕ) → (x + y + z) % p ≡ add (add (x % p) (y % p)) (z % p)
 unfolding add
 three-reduced x y z = simp (mod-add-mod, add-mod-mod)

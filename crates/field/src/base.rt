@@ -3,8 +3,7 @@
 //
 // Two facts carry the whole file: 2^64 is 2^32 - 1 modulo p, and so 2^96 = 2^64 · 2^32 is 2^64 - 2^32, which is -1.
 ghost use mathlib.Core.Path.{_≡_};
-ghost use mathlib.Core.Logic.{_⊎_};
-ghost use Prim.Native.Nat.{_+_, _*_, _%_, _^_, _≤_, _<_};
+ghost use Prim.Native.Nat.{_+_, _*_, _%_, _≤_, _<_};
 ghost use Rattle.field.specs.Base.{p, canonical, add, subtract, negate, multiply};
 ghost use Rattle.field.specs.Words.{Added, Difference, Product, WithProduct, value};
 use std::num::wrapping_add_u64;
@@ -66,7 +65,8 @@ fn remainder(a: u64) -> u64
     if a >= P { a - P } else { a }
 }
 
-// a + b modulo p, wrapped at 2^64 and then corrected. Where it wrapped it missed 2^64, which goes back as 2^32 - 1.
+// a + b modulo p, wrapped at 2^64 and then corrected: where it wrapped it missed 2^64, which goes back as 2^32 - 1. Below 2·p one
+// correction does. Two remainders keep to that, and so do the two parts that `reduced` adds.
 pub(crate) fn sum(a: u64, b: u64) -> u64
     requires { ⌜ a + b < 2 * p ⌝ }
     ensures { λ r. ⌜ r ≡ add a b ⌝ }
@@ -97,8 +97,9 @@ pub(crate) fn difference(a: u64, b: u64) -> u64
 //             |     u1·v0     |
 //             |     u0·v1     |
 //
-// The high word is added column by column: `right` and `left` are the cross products with what comes up from the columns below.
-// The low word takes no carry out, so it may wrap.
+// The high word is added column by column, with what each column carries up: `right` and `left` are the cross products with
+// what comes from below them. The low word may wrap, since only its lowest 64 bits count: u0·v0, and the low halves of the
+// cross products moved up. Written in this order of sums, the whole is one multiplication to an optimising compiler.
 pub(crate) fn product(u: u64, v: u64) -> Wide
     ensures { λ r. ⌜ Product u v r ⌝ }
 {

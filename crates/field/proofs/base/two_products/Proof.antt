@@ -1,8 +1,8 @@
 -- `field::base::two_products` meets its contract: a sum of products may be reduced once. Assumes nothing.
-use mathlib.Core.Path.{_∙_, ap}
+use mathlib.Core.Path.{_∙_, ap, sym}
 use Prim.Native.Nat.{ℕ, _+_, _*_, _%_}
-use Rattle.field.specs.Base.{p, multiply}
-use Rattle.field.proofs.Words.{two-reduced}
+use Rattle.field.specs.Base.{p, add, multiply}
+use Rattle.field.proofs.Words.{add-reduced}
 use borrow.Author.Needs.{needs}
 use Rattle.field.proofs.base.two_products.Statement.{statement}
 use Rattle.field.proofs.base.two_products.Tie as tie
@@ -17,8 +17,8 @@ reduced-requires : tie.Need-reduced-requires
 reduced-requires c κs = search needs
 
 returns : tie.Need-returns
-unfolding multiply
-returns c = c .reduced .ensures ∙ ap (λ (n : ℕ). n % p) (c .before .with-product .ensures .whole ∙ ap (λ (n : ℕ). n + c .before .before .before .args .u1 * c .before .before .before .args .v1) (c .before .before .product .ensures .whole)) ∙ two-reduced _ _
+unfolding add multiply
+returns c = c .reduced .ensures ∙ ap (λ (n : ℕ). n % p) (c .before .with-product .ensures .whole ∙ ap (λ (n : ℕ). n + c .before .before .before .args .u1 * c .before .before .before .args .v1) (c .before .before .product .ensures .whole)) ∙ sym (add-reduced _ _)
 
 pub two-products-spec : {M : Type 1} → statement M
 two-products-spec =

@@ -1,0 +1,38 @@
+-- `field_abi::field_triple_chain` meets its contract: what is left of the chain ends where the whole does. Assumes nothing.
+use borrow.Author.Needs.{needs}
+use mathlib.Core.Path.{refl, ap}
+use Rattle.field_abi.proofs.Turns.{Turns, one-less, no-more}
+use Rattle.field.specs.Extension.{triple, times}
+use Rattle.field.specs.declared.extension.Triple.{Triple}
+use Rattle.field_abi.specs.Chains.{tripleChain}
+use Rattle.field_abi.proofs.field_triple_chain.Statement.{statement}
+use Rattle.field_abi.proofs.field_triple_chain.Tie as tie
+
+abbrev Inv-loop : tie.InvT-loop
+Inv-loop a0 a1 a2 b0 b1 b2 n x₀ y₀ k₀ x y k = Turns times (tripleChain (triple a0 a1 a2) (triple b0 b1 b2) n) x y k
+
+abbrev μ-loop : tie.MeasureT-loop
+μ-loop a0 a1 a2 b0 b1 b2 n x₀ y₀ k₀ x y k = k
+
+loop-holds : tie.Need-loop-holds Inv-loop μ-loop
+loop-holds c = record { same-end = refl }
+
+multiply-requires : tie.Need-multiply-requires Inv-loop μ-loop
+multiply-requires c κs = search needs
+
+sub-k : tie.Need-sub-k Inv-loop μ-loop
+sub-k c = search needs
+
+loop-less : tie.Need-loop-less Inv-loop μ-loop
+loop-less c = search needs
+
+loop-again : tie.Need-loop-again Inv-loop μ-loop
+loop-again c = one-less (c .before .before .loop .inv) (search needs) (c .multiply .ensures)
+
+returns : tie.Need-returns Inv-loop μ-loop
+returns c = ap (λ (z : Triple). z .c0) (no-more (c .before .loop .inv) (search needs))
+
+pub field-triple-chain-spec : {M : Type 1} → statement M
+field-triple-chain-spec =
+    tie.close
+    (tie.spec Inv-loop μ-loop loop-holds multiply-requires sub-k loop-less loop-again returns)
