@@ -1,13 +1,13 @@
 -- How the parts of the check decide NOT_CIRCUIT. Assumes nothing.
-use mathlib.Core.Path.{_≡_, sym, ap, _∙_}
+use mathlib.Core.Path.{_≡_, sym, ap}
 use mathlib.Core.Bool.{Bool, true, false, not, false≢true}
 use mathlib.Core.List.{List}
 use Prim.Native.Nat.{ℕ}
 use Rattle.circuit.specs.Lists.{any, upTo}
 use Rattle.circuit.specs.Words.{used}
-use Rattle.circuit.specs.NotCircuit.{badHeader, badNode, cyclic, notCircuit}
+use Rattle.circuit.specs.NotCircuit.{badHeader, badNode, notCircuit}
 use Rattle.circuit.specs.Rank.{Checked}
-use Rattle.circuit.specs.Walk.{Walked}
+use Rattle.circuit.specs.Walk.{Ordered}
 
 module _ (m order rank : List ℕ) where
   refused : notCircuit m ≡ true → Checked m order rank false
@@ -21,6 +21,6 @@ module _ (m order rank : List ℕ) where
   unfolding notCircuit
   nodes-refused h n = refused (rw (h, n))
 
-  pub walk-decides : (answer : Bool) → badHeader m ≡ false → any (badNode m) (upTo (used m)) ≡ false → Walked m order rank answer → Checked m order rank answer
+  pub order-decides : (answer : Bool) → badHeader m ≡ false → any (badNode m) (upTo (used m)) ≡ false → Ordered m order rank answer → Checked m order rank answer
   unfolding notCircuit
-  walk-decides answer h n w = record { told = rw (h, n) (w .told); sorted = w .sorted }
+  order-decides answer h n w = record { told = rw (h, n) (w .told); sorted = w .sorted }

@@ -4,6 +4,7 @@ pub mod Valid
 pub mod Places
 pub mod Marks
 pub mod Visits
+pub mod Orders
 pub mod Checks
 pub mod Refusals
 pub mod Unique

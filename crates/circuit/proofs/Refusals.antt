@@ -1,14 +1,13 @@
 -- Which test gives a call's number, and what the call then does. Assumes nothing.
 use mathlib.Core.Path.{_≡_, refl, sym, ap, _∙_}
-use mathlib.Core.Bool.{Bool, true, false, _||_, not, false≢true, true≢false}
+use mathlib.Core.Bool.{Bool, true, false, not, false≢true, true≢false}
 use mathlib.Core.List.{List, [], _∷_}
 use Prim.Native.Nat.{ℕ, suc, _<_, _≤_}
-use lib.Dec.{leb}
 use borrow.Author.Tests.{le-leb, lt-leb}
 use Rattle.circuit.specs.Words.{used}
 use Rattle.circuit.specs.Lists.{any}
 use Rattle.circuit.specs.NotCircuit.{notCircuit, badId}
-use Rattle.circuit.specs.Outcomes.{Outcome, refusal, outcome}
+use Rattle.circuit.specs.Outcomes.{refusal, outcome}
 use Rattle.circuit.specs.Calls.{reading}
 use Rattle.circuit.specs.Answers.{accepted, refused}
 

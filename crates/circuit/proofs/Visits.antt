@@ -1,7 +1,7 @@
 -- The laws of the walk that ranks the nodes: what finishing a node keeps, and what a visit gives at each of its ends. Assumes nothing.
 use mathlib.Core.Path.{_≡_, refl, sym, ap, _∙_}
 use mathlib.Core.Logic.{_⊎_, inl, inr, ⊎-elim, _≢_}
-use mathlib.Core.Bool.{Bool, true, false, _||_, not, false≢true, true≢false}
+use mathlib.Core.Bool.{true, false, _||_, not, false≢true}
 use mathlib.Core.List.{List}
 use Prim.Native.Nat.{ℕ, zero, suc, _+_, _-_, _<_, _≤_}
 use native.Mathlib.Nat.{not-suc-le-zero}
@@ -12,13 +12,12 @@ use borrow.Author.Count.{below-more}
 use Rattle.circuit.specs.declared.node.Op.{Op}
 use Rattle.circuit.specs.declared.node.Expression.{Expression}
 use Rattle.circuit.specs.declared.node.Expression.the-variants.{Base, Extension, Challenge, Operation, Input}
-use Rattle.circuit.specs.declared.check.Step.{Step}
 use Rattle.circuit.specs.declared.check.Step.the-variants.{Stay, Two}
 use Rattle.circuit.specs.Lists.{upTo, any}
 use Rattle.circuit.specs.Words.{used, offset, expressionAt}
 use Rattle.circuit.specs.NotCircuit.{badNode, eitherOperand, goesOn, cyclic}
-use Rattle.circuit.specs.Rank.{at, Sorted}
-use Rattle.circuit.specs.Walk.{stepOf, finished, Unfinished, Walking, Walkable, Finished, Visiting, Visited, Walked}
+use Rattle.circuit.specs.Rank.{at}
+use Rattle.circuit.specs.Walk.{stepOf, finished, Unfinished, Taken, Walking, Walkable, Visiting, Visited, Ranked, Walked}
 use Rattle.circuit.proofs.Tests.{or-false, or-right, any-at, any-one, any-none, same-or, below-or, last-or}
 use Rattle.circuit.proofs.Valid.{header-top, header-room, header-fits, node-operands}
 use Rattle.circuit.proofs.Marks.{finished-lt, finished-all, finished-none, finished-set}
@@ -39,57 +38,51 @@ two-operands (Input q) a b h = let z : _≡_ {A = ℕ} 0 1 = cc in absurd (omega
 
 -- where a visit reads
 
-pub record Room (m order rank : List ℕ) (i : ℕ) : Type 0 where
+pub record Room (m rank : List ℕ) (i : ℕ) : Type 0 where
   pub small : i < 4096
   pub in-rank : i < length rank
   pub has-header : 2 ≤ length m
   pub fits : offset i + 6 ≤ length m
 
-pub visit-room : (m order rank : List ℕ) (i done : ℕ) → Visiting m order rank i done → Room m order rank i
-visit-room m order rank i done v =
+pub visit-room : (m rank : List ℕ) (i done : ℕ) → Visiting m rank i done → Room m rank i
+visit-room m rank i done v =
     let h = v .here in
     let t = header-top m (v .able .header) in
-    let k = v .able .rank-room in
-    record { small = omega arith; in-rank = omega arith; has-header = header-room m (v .able .header) .0; fits = header-fits m i (v .able .header) h }
+    let k = v .able .room in
+    record {
+      small = omega arith;
+      in-rank = omega arith;
+      has-header = header-room m (v .able .header) .0;
+      fits = header-fits m i (v .able .header) h;
+    }
+
+-- the operands of a node, if it has any, are finished
+abbrev Ready : List ℕ → List ℕ → ℕ → Type 0
+Ready m rank i = (o : Op) (l r : ℕ) → expressionAt m i ≡ Operation o l r → (at rank l < used m) × (at rank r < used m)
 
 -- a node finished, whose operands are
 
-module _ (m order rank : List ℕ) (i done : ℕ) (v : Visiting m order rank i done) (unfinished : used m ≤ at rank i) where
-  pub finish-room : done < used m
+module _ (m rank : List ℕ) (i done : ℕ) (v : Visiting m rank i done) (unfinished : used m ≤ at rank i) where
+  finish-room : done < used m
   finish-room = let c = v .walking .counted in let f = finished-lt rank (used m) (used m) i (v .here) unfinished in omega arith
 
-  pub finish-fits : (done < length order) × (i < length rank)
-  finish-fits =
-      let f = finish-room in
-      let h = v .here in
-      let t = header-top m (v .able .header) in
-      let a = v .able in
-      (omega arith, omega arith)
-
-  -- what finishing asks
-  pub finish-asks : (done < 4096) × ((4096 ≤ length order) × (i < length rank))
-  finish-asks =
-      let f = finish-room in
-      let t = header-top m (v .able .header) in
-      (omega arith, (v .able .order-room, finish-fits .1))
+  -- the next number fits
+  pub finish-small : done < 4096
+  finish-small = let f = finish-room in let t = header-top m (v .able .header) in omega arith
 
   rank-here : at (set rank i done) i ≡ done
-  rank-here = getD-set-same rank i done 0 (finish-fits .1)
-
-  order-here : at (set order done i) done ≡ i
-  order-here = getD-set-same order done i 0 (finish-fits .0)
+  rank-here = getD-set-same rank i done 0 (visit-room m rank i done v .in-rank)
 
   -- a finished node is another, and keeps its rank
-  pub rank-kept : (j : ℕ) → at rank j < used m → at (set rank i done) j ≡ at rank j
+  rank-kept : (j : ℕ) → at rank j < used m → at (set rank i done) j ≡ at rank j
   rank-kept j h = getD-set-other rank i j done 0 (λ e. let q : at rank j ≡ at rank i = ap (at rank) e in omega arith)
 
-  order-kept : (q : ℕ) → q < done → at (set order done i) q ≡ at order q
-  order-kept q l = getD-set-other order done q i 0 (omega arith)
+  rank-other : (j : ℕ) → j ≢ i → at (set rank i done) j ≡ at rank j
+  rank-other j n = getD-set-other rank i j done 0 n
 
   -- a node finished now, or before
   by-node : (P : ℕ → Type 0) → P i → ((j : ℕ) → j < used m → at rank j < used m → P j) → (j : ℕ) → j < used m → at (set rank i done) j < used m → P j
-  by-node P here others j l h =
-      ⊎-elim (λ e. rw e here) (λ n. others j l (rw (getD-set-other rank i j done 0 n) at h)) (same-or j i)
+  by-node P here others j l h = ⊎-elim (λ e. rw e here) (λ n. others j l (rw (rank-other j n) at h)) (same-or j i)
 
   first-here : (x : ℕ) → x < used m → at rank x < used m → at (set rank i done) x < at (set rank i done) i
   first-here x l h = rw (rank-here, rank-kept x h) (v .walking .before x l h)
@@ -100,40 +93,55 @@ module _ (m order rank : List ℕ) (i done : ℕ) (v : Visiting m order rank i d
   operands : (o : Op) (l r : ℕ) → expressionAt m i ≡ Operation o l r → (l < used m) × (r < used m)
   operands = node-operands m i (any-at (badNode m) (used m) i (v .here) (v .able .good))
 
-  -- the rank and the order of the next
-  by-place : (P : ℕ → Type 0) → P done → ((q : ℕ) → q < done → P q) → (q : ℕ) → q < done + 1 → P q
-  by-place P here others q l = ⊎-elim (λ e. rw e here) (others q) (last-or q done (omega arith))
+  -- no other has the rank that is given
+  given-alone : (j : ℕ) → j < used m → j ≢ i → at rank j ≡ done → ⊥
+  given-alone j l n e = let f = finish-room in let b = v .walking .before j l (omega arith) in omega arith
 
-  pub finish-walking : ((o : Op) (l r : ℕ) → expressionAt m i ≡ Operation o l r → (at rank l < used m) × (at rank r < used m)) → Walking m (set order done i) (set rank i done) (done + 1)
+  finish-alone : (j k : ℕ) → j < used m → k < used m → at (set rank i done) j < used m → at (set rank i done) j ≡ at (set rank i done) k → j ≡ k
+  finish-alone j k l l′ h e =
+      ⊎-elim
+      (λ p. ⊎-elim (λ q. p ∙ sym q) (λ n. absurd (given-alone k l′ n (sym (rank-other k n) ∙ sym e ∙ ap (at (set rank i done)) p ∙ rank-here))) (same-or k i))
+      (λ n. ⊎-elim
+      (λ q. absurd (given-alone j l n (sym (rank-other j n) ∙ e ∙ ap (at (set rank i done)) q ∙ rank-here)))
+      (λ n′. v .walking .alone j k l l′ (rw (rank-other j n) at h) (sym (rank-other j n) ∙ e ∙ rank-other k n′))
+      (same-or k i))
+      (same-or j i)
+
+  finish-taken : (q : ℕ) → q < done + 1 → Taken (set rank i done) (used m) q
+  finish-taken q l =
+      ⊎-elim
+      (λ e. record { id = i; below = v .here; is = rank-here ∙ sym e })
+      (λ lt. let t = v .walking .taken q lt in let f = finish-room in let e = t .is in record { id = t .id; below = t .below; is = rank-kept (t .id) (omega arith) ∙ e })
+      (last-or q done (omega arith))
+
+  finish-walking : Ready m rank i → Walking m (set rank i done) (done + 1)
   finish-walking ready =
       let w = v .walking in
       let f = finish-room in
-      let h = v .here in
+      let s = visit-room m rank i done v .in-rank in
       record {
-        counted = finished-set rank (used m) i done (used m) h (finish-fits .1) unfinished f ∙ ap (λ (k : ℕ). k + 1) (w .counted);
+        counted = finished-set rank (used m) i done (used m) (v .here) s unfinished f ∙ ap (λ (k : ℕ). k + 1) (w .counted);
         before = by-node (λ j. at (set rank i done) j < done + 1) (rw rank-here (omega arith)) (λ j l k. rw (rank-kept j k) (let b = w .before j l k in omega arith));
-        order-rank = by-node (λ j. at (set order done i) (at (set rank i done) j) ≡ j) (rw (rank-here, order-here)) (λ j l k. rw (rank-kept j k, order-kept (at rank j) (w .before j l k)) (w .order-rank j l k));
-        order-below = by-place (λ q. at (set order done i) q < used m) (rw order-here h) (λ q l. rw (order-kept q l) (w .order-below q l));
-        rank-order = by-place (λ q. at (set rank i done) (at (set order done i) q) ≡ q) (rw (order-here, rank-here)) (λ q l. rw (order-kept q l, rank-kept (at order q) (let e = w .rank-order q l in omega arith)) (w .rank-order q l));
+        alone = finish-alone;
+        taken = finish-taken;
         left-first = λ j o l r k x e. by-node (λ j. expressionAt m j ≡ Operation o l r → at (set rank i done) l < at (set rank i done) j) (λ e. first-here l (operands o l r e .0) (ready o l r e .0)) (λ j k x e. first-other j l x (w .left-first j o l r k x e)) j k x e;
         right-first = λ j o l r k x e. by-node (λ j. expressionAt m j ≡ Operation o l r → at (set rank i done) r < at (set rank i done) j) (λ e. first-here r (operands o l r e .1) (ready o l r e .1)) (λ j k x e. first-other j r x (w .right-first j o l r k x e)) j k x e;
       }
 
   -- the end of a visit that began at rank₀, and since then kept what was finished
-  pub finish-visit : (rank₀ order′ rank′ : List ℕ) (levels answer : ℕ) → ((j : ℕ) → at rank₀ j < used m → at rank j ≡ at rank₀ j) → ((o : Op) (l r : ℕ) → expressionAt m i ≡ Operation o l r → (at rank l < used m) × (at rank r < used m)) → Finished order rank order′ rank′ i done answer → Visited m rank₀ order′ rank′ i levels answer
-  finish-visit rank₀ order′ rank′ levels answer kept₀ ready d =
-      rw (d .listed, d .ranked, d .counted) record {
-        walking = λ _. finish-walking ready;
-        kept = λ _ j h. let e = kept₀ j h in rank-kept j (omega arith) ∙ e;
-        here = λ _. rw rank-here finish-room;
-        last = λ _. inr (rw rank-here);
-        goes-on = λ z. absurd (omega arith);
-      }
+  pub finish-visit : (rank₀ : List ℕ) (levels : ℕ) → ((j : ℕ) → at rank₀ j < used m → at rank j ≡ at rank₀ j) → Ready m rank i → Visited m rank₀ (set rank i done) i levels (done + 1)
+  finish-visit rank₀ levels kept₀ ready = record {
+    walking = λ _. finish-walking ready;
+    kept = λ _ j h. let e = kept₀ j h in rank-kept j (omega arith) ∙ e;
+    here = λ _. rw rank-here finish-room;
+    last = λ _. inr (rw rank-here);
+    goes-on = λ z. absurd (omega arith);
+  }
 
 -- the other ends of a visit
 
-pub visit-known : (m order rank : List ℕ) (i levels done : ℕ) → Visiting m order rank i done → at rank i < used m → Visited m rank order rank i levels done
-visit-known m order rank i levels done v h = record {
+pub visit-known : (m rank : List ℕ) (i levels done : ℕ) → Visiting m rank i done → at rank i < used m → Visited m rank rank i levels done
+visit-known m rank i levels done v h = record {
   walking = λ _. v .walking;
   kept = λ _ j k. refl;
   here = λ _. h;
@@ -141,8 +149,8 @@ visit-known m order rank i levels done v h = record {
   goes-on = λ z. absurd (let b = v .walking .before i (v .here) h in omega arith);
 }
 
-pub visit-fails : (m rank order′ rank′ : List ℕ) (i levels : ℕ) → goesOn m levels i ≡ true → Visited m rank order′ rank′ i levels 0
-visit-fails m rank order′ rank′ i levels g = record {
+pub visit-fails : (m rank rank′ : List ℕ) (i levels : ℕ) → goesOn m levels i ≡ true → Visited m rank rank′ i levels 0
+visit-fails m rank rank′ i levels g = record {
   walking = λ z. absurd (z refl);
   kept = λ z. absurd (z refl);
   here = λ z. absurd (z refl);
@@ -154,48 +162,42 @@ pub out-of-levels : (m : List ℕ) (i levels : ℕ) → levels ≡ 0 → goesOn 
 unfolding goesOn
 out-of-levels m i levels z = rw z
 
-pub able-kept : (m order rank order′ rank′ : List ℕ) → Walkable m order rank → length order′ ≡ length order → length rank′ ≡ length rank → Walkable m order′ rank′
-able-kept m order rank order′ rank′ w p q =
-    let a = w .order-room in
-    let b = w .rank-room in
-    record { header = w .header; good = w .good; order-room = omega arith; rank-room = omega arith }
+pub able-kept : (m rank rank′ : List ℕ) → Walkable m rank → length rank′ ≡ length rank → Walkable m rank′
+able-kept m rank rank′ w q = let b = w .room in record { header = w .header; good = w .good; room = omega arith }
 
 -- a node that stays has no operands to wait for
-pub stay-ready : (m rank : List ℕ) (i : ℕ) → stepOf (expressionAt m i) ≡ Stay → (o : Op) (l r : ℕ) → expressionAt m i ≡ Operation o l r → (at rank l < used m) × (at rank r < used m)
+pub stay-ready : (m rank : List ℕ) (i : ℕ) → stepOf (expressionAt m i) ≡ Stay → Ready m rank i
 stay-ready m rank i s o l r e = let h : Two l r ≡ Stay = sym (ap stepOf e) ∙ s in let z : _≡_ {A = ℕ} 0 1 = cc in absurd (omega arith)
 
-module _ (m order rank : List ℕ) (i done : ℕ) (v : Visiting m order rank i done) (a b : ℕ) (s : stepOf (expressionAt m i) ≡ Two a b) where
+module _ (m rank : List ℕ) (i done : ℕ) (v : Visiting m rank i done) (a b : ℕ) (s : stepOf (expressionAt m i) ≡ Two a b) where
   is-two : TwoOperands (expressionAt m i) a b
   is-two = two-operands (expressionAt m i) a b s
 
-  pub two-below : (a < used m) × (b < used m)
+  two-below : (a < used m) × (b < used m)
   two-below = let t = is-two in node-operands m i (any-at (badNode m) (used m) i (v .here) (v .able .good)) (t .op) a b (t .is)
 
-  pub visit-left : Visiting m order rank a done
+  pub visit-left : Visiting m rank a done
   visit-left = record { able = v .able; here = two-below .0; walking = v .walking }
 
   -- a path from an operand is one from the node
-  goes-either : (levels : ℕ) → (goesOn m levels a || goesOn m levels b) ≡ true → goesOn m (suc levels) i ≡ true
+  goes-either : (levels : ℕ) → levels ≢ 0 → (goesOn m (levels - 1) a || goesOn m (levels - 1) b) ≡ true → goesOn m levels i ≡ true
   unfolding goesOn
-  goes-either levels h = rw (is-two .is) h
+  goes-either zero n h = absurd (n refl)
+  goes-either (suc levels) n h = rw (is-two .is) (let e : suc levels - 1 ≡ levels = omega arith in rw e at h)
 
   pub goes-left : (levels : ℕ) → levels ≢ 0 → goesOn m (levels - 1) a ≡ true → goesOn m levels i ≡ true
-  goes-left levels p h =
-      let e : suc (levels - 1) ≡ levels = omega arith in
-      rw e at (goes-either (levels - 1) (rw h))
+  goes-left levels n h = goes-either levels n (rw h)
 
   pub goes-right : (levels : ℕ) → levels ≢ 0 → goesOn m (levels - 1) b ≡ true → goesOn m levels i ≡ true
-  goes-right levels p h =
-      let e : suc (levels - 1) ≡ levels = omega arith in
-      rw e at (goes-either (levels - 1) (or-right (goesOn m (levels - 1) a) _ h))
+  goes-right levels n h = goes-either levels n (or-right (goesOn m (levels - 1) a) _ h)
 
-  module _ (order₁ rank₁ : List ℕ) (levels₁ left : ℕ) (p : length order₁ ≡ length order) (q : length rank₁ ≡ length rank) (x : Visited m rank order₁ rank₁ a levels₁ left) (some : left ≢ 0) where
-    pub visit-right : Visiting m order₁ rank₁ b left
-    visit-right = record { able = able-kept m order rank order₁ rank₁ (v .able) p q; here = two-below .1; walking = x .walking some }
+  module _ (rank₁ : List ℕ) (levels₁ left : ℕ) (q : length rank₁ ≡ length rank) (x : Visited m rank rank₁ a levels₁ left) (some : left ≢ 0) where
+    pub visit-right : Visiting m rank₁ b left
+    visit-right = record { able = able-kept m rank rank₁ (v .able) q; here = two-below .1; walking = x .walking some }
 
-    module _ (order₂ rank₂ : List ℕ) (levels₂ both : ℕ) (p₂ : length order₂ ≡ length order₁) (q₂ : length rank₂ ≡ length rank₁) (y : Visited m rank₁ order₂ rank₂ b levels₂ both) (more : both ≢ 0) where
-      pub visit-node : Visiting m order₂ rank₂ i both
-      visit-node = record { able = able-kept m order₁ rank₁ order₂ rank₂ (visit-right .able) p₂ q₂; here = v .here; walking = y .walking more }
+    module _ (rank₂ : List ℕ) (levels₂ both : ℕ) (q₂ : length rank₂ ≡ length rank₁) (y : Visited m rank₁ rank₂ b levels₂ both) (more : both ≢ 0) where
+      pub visit-node : Visiting m rank₂ i both
+      visit-node = record { able = able-kept m rank₁ rank₂ (visit-right .able) q₂; here = v .here; walking = y .walking more }
 
       -- the node itself isn't finished meanwhile: it would be after its operand, and the operand is the last
       pub still-unfinished : used m ≤ at rank i → used m ≤ at rank₂ i
@@ -223,7 +225,7 @@ module _ (m order rank : List ℕ) (i done : ℕ) (v : Visiting m order rank i d
       pub two-kept : (j : ℕ) → at rank j < used m → at rank₂ j ≡ at rank j
       two-kept j h = let e = x .kept some j h in y .kept more j (omega arith) ∙ e
 
-      pub two-ready : (o : Op) (l r : ℕ) → expressionAt m i ≡ Operation o l r → (at rank₂ l < used m) × (at rank₂ r < used m)
+      pub two-ready : Ready m rank₂ i
       two-ready o l r e =
           let h : Two l r ≡ Two a b = sym (ap stepOf e) ∙ s in
           let f : l ≡ a = cc in
@@ -235,33 +237,47 @@ module _ (m order rank : List ℕ) (i done : ℕ) (v : Visiting m order rank i d
 
 -- the walk over all nodes
 
-pub walk-start : (m order rank : List ℕ) → Unfinished rank (used m) → Walking m order rank 0
+walk-start : (m rank : List ℕ) → Unfinished rank (used m) → Walking m rank 0
 unfolding Unfinished
-walk-start m order rank u = record {
+walk-start m rank u = record {
   counted = finished-none rank (used m) (used m) (λ i l. let e = u i l in omega arith);
   before = λ i l h. absurd (let e = u i l in omega arith);
-  order-rank = λ i l h. absurd (let e = u i l in omega arith);
-  order-below = λ q l. absurd (not-suc-le-zero l);
-  rank-order = λ q l. absurd (not-suc-le-zero l);
+  alone = λ i j l k h e. absurd (let e = u i l in omega arith);
+  taken = λ q l. absurd (not-suc-le-zero l);
   left-first = λ i o l r k h e. absurd (let x = u i k in omega arith);
   right-first = λ i o l r k h e. absurd (let x = u i k in omega arith);
 }
 
-module _ (m order rank : List ℕ) (done : ℕ) (w : Walking m order rank done) (all : (i : ℕ) → i < used m → at rank i < used m) where
-  pub walk-sorted : Sorted m order rank
-  walk-sorted =
-      let c = w .counted in
-      let f = finished-all rank (used m) (used m) all in
-      record {
-        rank-below = all;
-        order-rank = λ i l. w .order-rank i l (all i l);
-        order-below = λ q l. w .order-below q (omega arith);
-        rank-order = λ q l. w .rank-order q (omega arith);
-        left-first = λ i o l r k e. w .left-first i o l r k (all i k) e;
-        right-first = λ i o l r k e. w .right-first i o l r k (all i k) e;
-      }
+-- nodes below i are visited
+pub record Ranking (m rank₀ rank : List ℕ) (done i : ℕ) : Type 0 where
+  pub within : i ≤ used m
+  pub same-length : length rank ≡ length rank₀
+  pub walking : Walking m rank done
+  pub so-far : (j : ℕ) → j < i → at rank j < used m
 
-module _ (m order rank : List ℕ) (good : any (badNode m) (upTo (used m)) ≡ false) (s : Sorted m order rank) where
+pub ranking-start : (m rank : List ℕ) → Unfinished rank (used m) → Ranking m rank rank 0 0
+ranking-start m rank u = record {
+  within = omega arith;
+  same-length = refl;
+  walking = walk-start m rank u;
+  so-far = λ j l. absurd (not-suc-le-zero l);
+}
+
+module _ (m rank₀ rank : List ℕ) (done i : ℕ) (k : Ranking m rank₀ rank done i) (here : i < used m) where
+  pub ranking-visit : Walkable m rank₀ → Visiting m rank i done
+  ranking-visit a = record { able = able-kept m rank₀ rank a (k .same-length); here = here; walking = k .walking }
+
+  pub ranking-next : (rank′ : List ℕ) (levels more : ℕ) → Visited m rank rank′ i levels more → more ≢ 0 → length rank′ ≡ length rank → Ranking m rank₀ rank′ more (i + 1)
+  ranking-next rank′ levels more v n q = record {
+    within = omega arith;
+    same-length = q ∙ k .same-length;
+    walking = v .walking n;
+    so-far = below-more (λ (j : ℕ). at rank′ j < used m) i (λ j l. let e = v .kept n j (k .so-far j l) in let h = k .so-far j l in omega arith) (v .here n);
+  }
+
+-- the ends of the walk
+
+module _ (m rank : List ℕ) (good : any (badNode m) (upTo (used m)) ≡ false) (s : Ranked m rank) where
   -- a path falls in rank
   ends : (levels i : ℕ) → i < used m → at rank i < levels → goesOn m levels i ≡ false
   unfolding goesOn
@@ -274,55 +290,24 @@ module _ (m order rank : List ℕ) (good : any (badNode m) (upTo (used m)) ≡ f
       go rec (Challenge k) q = refl
       go rec (Operation o a b) q =
           let n = node-operands m i (any-at (badNode m) (used m) i l good) o a b q in
-          let f = s .left-first i o a b l q in
-          let g = s .right-first i o a b l q in
+          let f = s .walking .left-first i o a b l (s .all i l) q in
+          let g = s .walking .right-first i o a b l (s .all i l) q in
           or-false (goesOn m levels a) (goesOn m levels b) (rec a (n .0) (omega arith)) (rec b (n .1) (omega arith))
       go rec (Input q) e = refl
 
-  pub sorted-acyclic : cyclic m ≡ false
+  ranked-acyclic : cyclic m ≡ false
   unfolding cyclic
-  sorted-acyclic = any-none (goesOn m (used m)) (used m) (λ i l. ends (used m) i l (s .rank-below i l))
+  ranked-acyclic = any-none (goesOn m (used m)) (used m) (λ i l. ends (used m) i l (s .all i l))
 
--- nodes below i are visited
-pub record Ranking (m order₀ rank₀ order rank : List ℕ) (done i : ℕ) : Type 0 where
-  pub within : i ≤ used m
-  pub order-length : length order ≡ length order₀
-  pub rank-length : length rank ≡ length rank₀
-  pub walking : Walking m order rank done
-  pub so-far : (j : ℕ) → j < i → at rank j < used m
-
-pub ranking-start : (m order rank : List ℕ) → Unfinished rank (used m) → Ranking m order rank order rank 0 0
-ranking-start m order rank u = record {
-  within = omega arith;
-  order-length = refl;
-  rank-length = refl;
-  walking = walk-start m order rank u;
-  so-far = λ j l. absurd (not-suc-le-zero l);
-}
-
-module _ (m order₀ rank₀ order rank : List ℕ) (done i : ℕ) (k : Ranking m order₀ rank₀ order rank done i) (here : i < used m) where
-  pub ranking-visit : Walkable m order₀ rank₀ → Visiting m order rank i done
-  ranking-visit a = record { able = able-kept m order₀ rank₀ order rank a (k .order-length) (k .rank-length); here = here; walking = k .walking }
-
-  pub ranking-next : (order′ rank′ : List ℕ) (levels more : ℕ) → Visited m rank order′ rank′ i levels more → more ≢ 0 → length order′ ≡ length order → length rank′ ≡ length rank → Ranking m order₀ rank₀ order′ rank′ more (i + 1)
-  ranking-next order′ rank′ levels more v n p q = record {
-    within = omega arith;
-    order-length = p ∙ k .order-length;
-    rank-length = q ∙ k .rank-length;
-    walking = v .walking n;
-    so-far = below-more (λ (j : ℕ). at rank′ j < used m) i (λ j l. let e = v .kept n j (k .so-far j l) in let h = k .so-far j l in omega arith) (v .here n);
-  }
-
--- the ends of the walk
-
-pub walk-fails : (m order rank : List ℕ) (i : ℕ) → i < used m → goesOn m (used m) i ≡ true → Walked m order rank false
+pub walk-fails : (m rank : List ℕ) (i : ℕ) → i < used m → goesOn m (used m) i ≡ true → Walked m rank false
 unfolding cyclic
-walk-fails m order rank i l g = record {
+walk-fails m rank i l g = record {
   told = ap not (sym (any-one (goesOn m (used m)) (used m) i l g));
-  sorted = λ e. absurd (false≢true e);
+  ranked = λ e. absurd (false≢true e);
 }
 
-pub walk-done : (m order rank : List ℕ) (done : ℕ) → any (badNode m) (upTo (used m)) ≡ false → Walking m order rank done → ((i : ℕ) → i < used m → at rank i < used m) → Walked m order rank true
-walk-done m order rank done good w all =
-    let s = walk-sorted m order rank done w all in
-    record { told = ap not (sym (sorted-acyclic m order rank good s)); sorted = λ _. s }
+pub walk-done : (m rank : List ℕ) (done : ℕ) → any (badNode m) (upTo (used m)) ≡ false → Walking m rank done → ((i : ℕ) → i < used m → at rank i < used m) → Walked m rank true
+walk-done m rank done good w all =
+    let e : done ≡ used m = sym (w .counted) ∙ finished-all rank (used m) (used m) all in
+    let r : Ranked m rank = record { walking = rw e at w; all = all } in
+    record { told = ap not (sym (ranked-acyclic m rank good r)); ranked = λ _. r }

@@ -3,6 +3,7 @@ use crate::check::check;
 use crate::check::limit_of;
 use crate::node::Node;
 use crate::node::RowKind;
+use crate::place::HEADER;
 use crate::place::node_at;
 use crate::refusal::BAD_ID;
 use crate::refusal::NOT_CIRCUIT;
@@ -44,7 +45,7 @@ fn row_word(kind: RowKind) -> u64
 pub fn start(m: &mut [u64], kind: RowKind) -> Started
     ensures { λ r. ⌜ toldStart r (now (m .exit)) ≡ startCall (now (m .entry)) kind ⌝ }
 {
-    if m.len() < 2 {
+    if m.len() < HEADER {
         return Started::Refused(NOT_CIRCUIT);
     }
     m[0] = row_word(kind);

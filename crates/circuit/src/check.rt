@@ -1,12 +1,13 @@
 // The check for NOT_CIRCUIT, of any words: it refuses exactly where the definition does, and hands on the rank.
 use crate::node::Expression;
 use crate::node::Position;
+use crate::place::HEADER;
+use crate::place::PLACE;
 use crate::place::column_of;
 use crate::place::expression_at;
 use field::extension::Triple;
 use field::extension::unlifts;
 ghost use mathlib.Core.Path.{_≡_};
-ghost use mathlib.Core.Logic.{_≢_};
 ghost use mathlib.Core.Bool.{false};
 ghost use Prim.Native.Nat.{_+_, _<_, _≤_};
 ghost use lib.ListN.{length};
@@ -14,7 +15,7 @@ ghost use Rattle.circuit.specs.Lists.{any, upTo};
 ghost use Rattle.circuit.specs.Words.{used, limit, offset, isNext};
 ghost use Rattle.circuit.specs.NotCircuit.{badRow, badIndex, badWord, badWords, badExpression, badNode, badHeader};
 ghost use Rattle.circuit.specs.Rank.{Checked};
-ghost use Rattle.circuit.specs.Walk.{stepOf, Unfinished, Walkable, Finished, Visiting, Visited, Walked};
+ghost use Rattle.circuit.specs.Walk.{stepOf, Unfinished, Walkable, Visiting, Visited, Walked, Placing, Placed, Ordered};
 
 // p = 2^64 - 2^32 + 1
 const P: u64 = 18446744069414584321;
@@ -27,10 +28,10 @@ const LAST_INDEX: u64 = 65535;
 pub fn limit_of(m: &[u64]) -> u64
     ensures { λ r. ⌜ r ≡ limit (now (m .entry)) ⌝ }
 {
-    if m.len() < 2 {
+    if m.len() < HEADER {
         return 0;
     }
-    let places = (m.len() - 2) / 6;
+    let places = (m.len() - HEADER) / PLACE;
     if places < MOST_NODES {
         return places as u64;
     }
@@ -41,7 +42,7 @@ pub fn limit_of(m: &[u64]) -> u64
 pub fn bad_header(m: &[u64]) -> bool
     ensures { λ r. ⌜ r ≡ badHeader (now (m .entry)) ⌝ }
 {
-    if m.len() < 2 {
+    if m.len() < HEADER {
         return true;
     }
     let row = m[0];
@@ -138,7 +139,7 @@ fn bad_node(m: &[u64], i: u64) -> bool
     requires { ⌜ offset i + 6 ≤ length (now m) ⌝ }
     ensures { λ r. ⌜ r ≡ badNode (now (m .entry)) i ⌝ }
 {
-    let at = 2 + 6 * (i as usize);
+    let at = HEADER + PLACE * (i as usize);
     if m[at] > 8 {
         return true;
     }
@@ -181,22 +182,11 @@ fn step_of(e: Expression) -> Step
     }
 }
 
-fn finish(order: &mut [u64], rank: &mut [u64], i: u64, done: u64) -> u64
-    requires { ⌜ (done < 4096) × ((4096 ≤ length (now order)) × (i < length (now rank))) ⌝ }
-    ensures { λ r. ⌜ Finished (now (order .entry)) (now (rank .entry)) (now (order .exit)) (now (rank .exit)) i done r ⌝ }
-{
-    let place = done as usize;
-    order[place] = i;
-    let node = i as usize;
-    rank[node] = done;
-    done + 1
-}
-
 // Finishes node i, after all below it, each once: a node whose rank is not below the used count is not finished. `done` are finished so far,
 // and the answer is how many are then; or 0, no number of finished nodes, where a path from i goes on for so many levels.
-fn visit(m: &[u64], order: &mut [u64], rank: &mut [u64], i: u64, done: u64, levels: u64) -> u64
-    requires { ⌜ Visiting (now m) (now order) (now rank) i done ⌝ }
-    ensures { λ r. ⌜ Visited (now (m .entry)) (now (rank .entry)) (now (order .exit)) (now (rank .exit)) i levels r ⌝ }
+fn visit(m: &[u64], rank: &mut [u64], i: u64, done: u64, levels: u64) -> u64
+    requires { ⌜ Visiting (now m) (now rank) i done ⌝ }
+    ensures { λ r. ⌜ Visited (now (m .entry)) (now (rank .entry)) (now (rank .exit)) i levels r ⌝ }
 {
     let node = i as usize;
     if rank[node] < m[1] {
@@ -207,17 +197,21 @@ fn visit(m: &[u64], order: &mut [u64], rank: &mut [u64], i: u64, done: u64, leve
     }
     let s = step_of(expression_at(m, i));
     match s {
-        Step::Stay => finish(order, rank, i, done),
+        Step::Stay => {
+            rank[node] = done;
+            done + 1
+        }
         Step::Two(a, b) => {
-            let left = visit(m, order, rank, a, done, levels - 1);
+            let left = visit(m, rank, a, done, levels - 1);
             if left == 0 {
                 return 0;
             }
-            let both = visit(m, order, rank, b, left, levels - 1);
+            let both = visit(m, rank, b, left, levels - 1);
             if both == 0 {
                 return 0;
             }
-            finish(order, rank, i, both)
+            rank[node] = both;
+            both + 1
         }
     }
 }
@@ -235,22 +229,48 @@ fn unfinish(rank: &mut [u64], n: u64)
 }
 
 // Ranks the nodes; false where there is a cycle.
-fn sort(m: &[u64], order: &mut [u64], rank: &mut [u64]) -> bool
-    requires { ⌜ Walkable (now m) (now order) (now rank) ⌝ }
-    ensures { λ r. ⌜ Walked (now (m .entry)) (now (order .exit)) (now (rank .exit)) r ⌝ }
+fn walk(m: &[u64], rank: &mut [u64]) -> bool
+    requires { ⌜ Walkable (now m) (now rank) ⌝ }
+    ensures { λ r. ⌜ Walked (now (m .entry)) (now (rank .exit)) r ⌝ }
 {
     let n = m[1];
     unfinish(rank, n);
     let mut done: u64 = 0;
     let mut i: u64 = 0;
     while i < n {
-        let more = visit(m, order, rank, i, done, n);
+        let more = visit(m, rank, i, done, n);
         if more == 0 {
             return false;
         }
         done = more;
         i += 1;
     }
+    true
+}
+
+// Lists the nodes by their ranks.
+fn list(order: &mut [u64], rank: &[u64], n: u64)
+    requires { ⌜ Placing (now rank) n × ((n ≤ length (now order)) × (n ≤ length (now rank))) ⌝ }
+    ensures { λ r. ⌜ Placed (now (order .exit)) (now (rank .entry)) n ⌝ }
+{
+    let mut i: u64 = 0;
+    while i < n {
+        let node = i as usize;
+        let place = rank[node] as usize;
+        order[place] = i;
+        i += 1;
+    }
+}
+
+// Ranks and lists the nodes; false where there is a cycle.
+fn sort(m: &[u64], order: &mut [u64], rank: &mut [u64]) -> bool
+    requires { ⌜ Walkable (now m) (now rank) × (4096 ≤ length (now order)) ⌝ }
+    ensures { λ r. ⌜ Ordered (now (m .entry)) (now (order .exit)) (now (rank .exit)) r ⌝ }
+{
+    if !walk(m, rank) {
+        return false;
+    }
+    list(order, rank, m[1]);
     true
 }
 

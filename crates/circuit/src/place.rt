@@ -11,6 +11,12 @@ ghost use lib.ListN.{length, set};
 ghost use lib.Seq.{sets};
 ghost use Rattle.circuit.specs.Words.{used, limit, offset, decode, expressionAt, nodeAt, opKind, inputKind, column, encode, made};
 
+// The words before the first place: the row kind and the used count.
+pub const HEADER: usize = 2;
+
+// The words of a place.
+pub const PLACE: usize = 6;
+
 // What a kind and its three words say.
 fn decoded(kind: u64, a: u64, b: u64, c: u64) -> Expression
     ensures { λ r. ⌜ r ≡ decode kind a b c ⌝ }
@@ -37,7 +43,7 @@ pub fn expression_at(m: &[u64], i: u64) -> Expression
     requires { ⌜ offset i + 6 ≤ length (now m) ⌝ }
     ensures { λ r. ⌜ r ≡ expressionAt (now (m .entry)) i ⌝ }
 {
-    let at = 2 + 6 * (i as usize);
+    let at = HEADER + PLACE * (i as usize);
     decoded(m[at], m[at + 1], m[at + 2], m[at + 3])
 }
 
@@ -47,7 +53,7 @@ pub fn node_at(m: &[u64], i: u64) -> Node
     ensures { λ r. ⌜ r ≡ nodeAt (now (m .entry)) i ⌝ }
 {
     let e = expression_at(m, i);
-    let at = 2 + 6 * (i as usize);
+    let at = HEADER + PLACE * (i as usize);
     Node {
         expression: e,
         registered: m[at + 4] == 1,
@@ -140,7 +146,7 @@ fn fill(m: &mut [u64], i: u64, w: FourWords)
     requires { ⌜ offset i + 6 ≤ length (now m) ⌝ }
     ensures { λ r. ⌜ now (m .exit) ≡ sets (now (m .entry)) (offset i) (w .kind ∷ w .first ∷ w .second ∷ w .third ∷ 1 ∷ 0 ∷ []) ⌝ }
 {
-    let at = 2 + 6 * (i as usize);
+    let at = HEADER + PLACE * (i as usize);
     m[at] = w.kind;
     m[at + 1] = w.first;
     m[at + 2] = w.second;
@@ -164,6 +170,6 @@ pub fn write_word(m: &mut [u64], i: u64, k: u64, v: u64)
     requires { ⌜ (offset i + 6 ≤ length (now m)) × (k < 6) ⌝ }
     ensures { λ r. ⌜ now (m .exit) ≡ set (now (m .entry)) (offset i + k) v ⌝ }
 {
-    let at = 2 + 6 * (i as usize) + (k as usize);
+    let at = HEADER + PLACE * (i as usize) + (k as usize);
     m[at] = v;
 }

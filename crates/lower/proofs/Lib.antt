@@ -24,3 +24,7 @@ pub mod Fits
 pub mod Example
 pub mod Tables
 pub mod Proper
+pub mod Renames
+pub mod Selects
+pub mod Seen
+pub mod Readings

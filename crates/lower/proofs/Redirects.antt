@@ -139,7 +139,7 @@ module _ (s n : ℕ) (x : List ℕ) (i : ℕ) where
       go (inl r) (inr a) (inl b) = rw r (turn (rw (r, a, b)) (inr (eqb-true _ _ b)))
       go (inl r) (inr a) (inr b) = rw (rename-no (rw (r, a, b)), r) (sym (plain-stays s n (word x i 0) (word x i 1) (word x i 2) (word x i 3) a b))
 
-each-snoc : {A B : Type 0} (f : A → B → A) (a : A) (xs : List B) (b : B) → each f a (xs ++ (b ∷ [])) ≡ f (each f a xs) b
+pub each-snoc : {A B : Type 0} (f : A → B → A) (a : A) (xs : List B) (b : B) → each f a (xs ++ (b ∷ [])) ≡ f (each f a xs) b
 unfolding each
 each-snoc f a [] b = refl
 each-snoc f a (x ∷ xs) b = each-snoc f (f a x) xs b

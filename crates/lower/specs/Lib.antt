@@ -6,3 +6,4 @@ pub mod Grown
 pub mod Demand
 pub mod Computing
 pub mod Examples
+pub mod Tables

@@ -1,4 +1,7 @@
 // Lowering: document 01, "Lowering".
+pub mod choose;
+pub mod redirect;
+pub mod tests;
 
 // How many main and auxiliary constraints a lowering added, or the number of its refusal.
 pub enum Lowered {

@@ -2,5 +2,12 @@
 pub mod Readings
 pub mod Refusals
 pub mod Calls
+pub mod Answers
+pub mod Tables
+pub mod Rooted
+pub mod Degrees
+pub mod Bases
+pub mod Values
+pub mod Lent
 pub mod Computing
 pub mod Examples

@@ -1,7 +1,9 @@
 // Readings of a circuit: document 01, "Readings".
-
-// A degree, -1 for the zero constant, or the number of a refusal.
-pub enum Degree {
-    Found(i64),
-    Refused(u64),
-}
+pub mod answer;
+pub mod base_test;
+pub mod constants;
+pub mod degree;
+pub mod roots;
+pub mod step;
+pub mod table;
+pub mod value;

@@ -1,4 +1,4 @@
-use mathlib.Core.Path.{sym, ap, _∙_}
+use mathlib.Core.Path.{sym}
 use mathlib.Core.List.{[]}
 use native.Mathlib.Omega.{arith}
 use Rattle.circuit.specs.Calls.{freeCall}
@@ -7,33 +7,23 @@ use Rattle.circuit.proofs.Refusals.{refuses, accepts, refusal-none, rea
 use borrow.Author.Needs.{needs}
 use Rattle.circuit.proofs.calls.free.Statement.{statement}
 use Rattle.circuit.proofs.calls.free.Tie as tie
-use Rattle.circuit.proofs.calls.free.Reads as reads
-use Rattle.circuit.proofs.calls.free.Lts as lts
-use Rattle.circuit.proofs.calls.is_circuit.Reads as is-circuit-reads
-use Rattle.circuit.proofs.check.limit_of.Reads as limit-of-reads
 
--- src/calls.rt:89:9
 is-circuit-requires : tie.Need-is-circuit-requires
 is-circuit-requires c κs = search needs
 
--- src/calls.rt:90:9
 returns : tie.Need-returns
 unfolding freeCall
 returns c = sym (reading-no-circuit (c .before .before .before .args .m .now) [] [] _ _ (refuses _ _ (c .before .is-circuit .ensures) (c .if1 .taken)))
 
--- src/calls.rt:92:20
 limit-of-requires : tie.Need-limit-of-requires
 limit-of-requires c κs = search needs
 
--- src/calls.rt:92:34
 shared-slice-read-t6 : tie.Need-shared-slice-read-t6
 shared-slice-read-t6 c = valid-length _ (accepts _ _ (c .before .before .before .is-circuit .ensures) (c .before .before .if1 .left))
 
--- src/calls.rt:92:20
 sub-t7 : tie.Need-sub-t7
 sub-t7 c = let r = valid-room (c .before .before .before .before .before .args .m .now) (accepts _ _ (c .before .before .before .is-circuit .ensures) (c .before .before .if1 .left)) in let l = c .before .limit-of .ensures in omega arith
 
--- src/calls.rt:86:1
 returns-2 : tie.Need-returns-2
 unfolding freeCall
 returns-2 c = rw (c .before .limit-of .ensures) (sym (reading-accepted (c .before .before .before .before .before .args .m .now) [] [] _ _ (accepts _ _ (c .before .before .before .is-circuit .ensures) (c .before .before .if1 .left)) (no-bad-id (c .before .before .before .before .before .args .m .now)) refusal-none))

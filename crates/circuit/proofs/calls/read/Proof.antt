@@ -1,40 +1,29 @@
 use mathlib.Core.Path.{sym, _∙_}
 use mathlib.Core.List.{[], _∷_}
-use native.Mathlib.Omega.{arith}
 use Rattle.circuit.specs.Calls.{readCall}
 use Rattle.circuit.proofs.Valid.{valid-length, valid-fits}
 use Rattle.circuit.proofs.Refusals.{refuses, accepts, refusal-none, reading-no-circuit, reading-bad-id, reading-accepted, no-bad-id, bad-id-here, bad-id-next}
 use borrow.Author.Needs.{needs}
 use Rattle.circuit.proofs.calls.read.Statement.{statement}
 use Rattle.circuit.proofs.calls.read.Tie as tie
-use Rattle.circuit.proofs.calls.read.Reads as reads
-use Rattle.circuit.proofs.calls.read.Lts as lts
-use Rattle.circuit.proofs.calls.is_circuit.Reads as is-circuit-reads
-use Rattle.circuit.proofs.place.node_at.Reads as node-at-reads
 
--- src/calls.rt:66:9
 is-circuit-requires : tie.Need-is-circuit-requires
 is-circuit-requires c κs = search needs
 
--- src/calls.rt:67:9
 returns : tie.Need-returns
 unfolding readCall
 returns c = sym (reading-no-circuit (c .before .before .before .args .m .now) (c .before .before .before .args .i ∷ []) [] _ _ (refuses _ _ (c .before .is-circuit .ensures) (c .if1 .taken)))
 
--- src/calls.rt:69:8
 shared-slice-read-if2 : tie.Need-shared-slice-read-if2
 shared-slice-read-if2 c = valid-length _ (accepts _ _ (c .before .before .is-circuit .ensures) (c .before .if1 .left))
 
--- src/calls.rt:70:9
 returns-2 : tie.Need-returns-2
 unfolding readCall
 returns-2 c = sym (reading-bad-id (c .before .before .before .before .before .args .m .now) (c .before .before .before .before .before .args .i ∷ []) [] _ _ (accepts _ _ (c .before .before .before .is-circuit .ensures) (c .before .before .if1 .left)) (bad-id-here (c .before .before .before .before .before .args .m .now) _ _ (c .if2 .taken)))
 
--- src/calls.rt:72:21
 node-at-requires : tie.Need-node-at-requires
 node-at-requires c κs = valid-fits _ (accepts _ _ (c .before .before .before .is-circuit .ensures) (c .before .before .if1 .left)) _ (c .if2 .left)
 
--- src/calls.rt:63:1
 returns-3 : tie.Need-returns-3
 unfolding readCall
 returns-3 c = rw (c .node-at .ensures) (sym (reading-accepted (c .before .before .before .before .before .before .args .m .now) (c .before .before .before .before .before .before .args .i ∷ []) [] _ _ (accepts _ _ (c .before .before .before .before .is-circuit .ensures) (c .before .before .before .if1 .left)) (bad-id-next (c .before .before .before .before .before .before .args .m .now) _ _ (c .before .if2 .left) ∙ no-bad-id (c .before .before .before .before .before .before .args .m .now)) refusal-none))

@@ -6,24 +6,17 @@ use Rattle.circuit.proofs.Refusals.{refuses, accepts, refusal-none, rea
 use borrow.Author.Needs.{needs}
 use Rattle.circuit.proofs.calls.used.Statement.{statement}
 use Rattle.circuit.proofs.calls.used.Tie as tie
-use Rattle.circuit.proofs.calls.used.Reads as reads
-use Rattle.circuit.proofs.calls.used.Lts as lts
-use Rattle.circuit.proofs.calls.is_circuit.Reads as is-circuit-reads
 
--- src/calls.rt:79:9
 is-circuit-requires : tie.Need-is-circuit-requires
 is-circuit-requires c κs = search needs
 
--- src/calls.rt:80:9
 returns : tie.Need-returns
 unfolding usedCall
 returns c = sym (reading-no-circuit (c .before .before .before .args .m .now) [] [] _ _ (refuses _ _ (c .before .is-circuit .ensures) (c .if1 .taken)))
 
--- src/calls.rt:82:20
 shared-slice-read-t5 : tie.Need-shared-slice-read-t5
 shared-slice-read-t5 c = valid-length _ (accepts _ _ (c .before .before .is-circuit .ensures) (c .before .if1 .left))
 
--- src/calls.rt:76:1
 returns-2 : tie.Need-returns-2
 unfolding usedCall
 returns-2 c = sym (reading-accepted (c .before .before .before .before .args .m .now) [] [] _ _ (accepts _ _ (c .before .before .is-circuit .ensures) (c .before .if1 .left)) (no-bad-id (c .before .before .before .before .args .m .now)) refusal-none)

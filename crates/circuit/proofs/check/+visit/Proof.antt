@@ -1,379 +1,298 @@
 use borrow.Author.Needs.{needs}
 use native.Mathlib.Omega.{arith}
 use mathlib.Core.Path.{refl, sym, ap, _∙_}
+use lib.ListN.{length-set}
 use Rattle.circuit.specs.Walk.{stepOf}
-use Rattle.circuit.proofs.Visits.{visit-room, visit-known, visit-fails, out-of-levels, finish-asks, finish-visit, stay-ready, visit-left, visit-right, goes-left, goes-right, visit-node, still-unfinished, two-kept, two-ready}
+use Rattle.circuit.proofs.Visits.{visit-room, visit-known, visit-fails, out-of-levels, finish-small, finish-visit, stay-ready, visit-left, visit-right, goes-left, goes-right, visit-node, still-unfinished, two-kept, two-ready}
 use Prim.Native.Nat.{ℕ, _<_}
 use borrow.Fn.Kinds.{In}
 use borrow.Fn.PlainCycle.{Measures, is, falls, and}
 use Rattle.circuit.proofs.check.visit.Reads as visit
 use Rattle.circuit.proofs.check.visit.Kinds as visit-kinds
 use Rattle.circuit.proofs.check.+visit.Lts-visit as visit-lts
-use Rattle.circuit.proofs.check.finish.Reads as finish-reads
 use Rattle.circuit.proofs.check.step_of.Reads as step-of-reads
 use Rattle.circuit.proofs.place.expression_at.Reads as expression-at-reads
 use Rattle.circuit.proofs.check.+visit.{statement}
 use Rattle.circuit.proofs.check.+visit.Tie.{close}
 
-abbrev μ-visit : Measures 3 visit-kinds.ps ℕ
-μ-visit κs a = a .1 .1 .1 .1 .1 .0
+abbrev μ-visit : Measures 2 visit-kinds.ps ℕ
+μ-visit κs a = a .1 .1 .1 .1 .0
 
-abbrev visit-at : ℕ → In 3 visit-kinds.ps
-visit-at t = and 3 visit-kinds.ps (is 3 visit-kinds.ps μ-visit t) visit.Pre
+abbrev visit-at : ℕ → In 2 visit-kinds.ps
+visit-at t = and 2 visit-kinds.ps (is 2 visit-kinds.ps μ-visit t) visit.Pre
 
-abbrev visit-below : ℕ → In 3 visit-kinds.ps
-visit-below t = and 3 visit-kinds.ps (falls 3 visit-kinds.ps _<_ μ-visit t) visit.Pre
+abbrev visit-below : ℕ → In 2 visit-kinds.ps
+visit-below t = and 2 visit-kinds.ps (falls 2 visit-kinds.ps _<_ μ-visit t) visit.Pre
 
--- src/check.rt:212:8
 visit-mul-if1 : (t : ℕ) → visit-lts.Need-mul-if1 (
   expression-at-reads.Asked,
   expression-at-reads.Learnt,
   step-of-reads.Asked,
   step-of-reads.Learnt,
-  finish-reads.Asked,
-  finish-reads.Learnt,
   visit-below t,
   visit.Post,
 ) (visit-at t) visit.Post
-visit-mul-if1 t c = let r = visit-room _ _ _ _ _ (c .before .before .before .pre .1) in omega arith
+visit-mul-if1 t c = let r = visit-room _ _ _ _ (c .before .before .pre .1) in omega arith
 
--- src/check.rt:212:8
 visit-slice-read-if1 : (t : ℕ) → visit-lts.Need-slice-read-if1 (
   expression-at-reads.Asked,
   expression-at-reads.Learnt,
   step-of-reads.Asked,
   step-of-reads.Learnt,
-  finish-reads.Asked,
-  finish-reads.Learnt,
   visit-below t,
   visit.Post,
 ) (visit-at t) visit.Post
-visit-slice-read-if1 t c = let r = visit-room _ _ _ _ _ (c .before .before .before .before .pre .1) in omega arith
+visit-slice-read-if1 t c = let r = visit-room _ _ _ _ (c .before .before .before .pre .1) in omega arith
 
--- src/check.rt:212:21
 visit-shared-slice-read-if1 : (t : ℕ) → visit-lts.Need-shared-slice-read-if1 (
   expression-at-reads.Asked,
   expression-at-reads.Learnt,
   step-of-reads.Asked,
   step-of-reads.Learnt,
-  finish-reads.Asked,
-  finish-reads.Learnt,
   visit-below t,
   visit.Post,
 ) (visit-at t) visit.Post
-visit-shared-slice-read-if1 t c = let r = visit-room _ _ _ _ _ (c .before .before .before .before .before .pre .1) in omega arith
+visit-shared-slice-read-if1 t c = let r = visit-room _ _ _ _ (c .before .before .before .before .pre .1) in omega arith
 
--- src/check.rt:213:9
 visit-returns : (t : ℕ) → visit-lts.Need-returns (
   expression-at-reads.Asked,
   expression-at-reads.Learnt,
   step-of-reads.Asked,
   step-of-reads.Learnt,
-  finish-reads.Asked,
-  finish-reads.Learnt,
   visit-below t,
   visit.Post,
 ) (visit-at t) visit.Post
-visit-returns t c = visit-known _ _ _ _ _ _ (c .before .before .before .before .before .before .pre .1) (c .if1 .taken)
+visit-returns t c = visit-known _ _ _ _ _ (c .before .before .before .before .before .pre .1) (c .if1 .taken)
 
--- src/check.rt:216:9
 visit-returns-2 : (t : ℕ) → visit-lts.Need-returns-2 (
   expression-at-reads.Asked,
   expression-at-reads.Learnt,
   step-of-reads.Asked,
   step-of-reads.Learnt,
-  finish-reads.Asked,
-  finish-reads.Learnt,
   visit-below t,
   visit.Post,
 ) (visit-at t) visit.Post
-visit-returns-2 t c = visit-fails _ _ _ _ _ _ (out-of-levels _ _ _ (c .if2 .taken))
+visit-returns-2 t c = visit-fails _ _ _ _ _ (out-of-levels _ _ _ (c .if2 .taken))
 
--- src/check.rt:218:21
 visit-expression-at-requires : (t : ℕ) → visit-lts.Need-expression-at-requires (
   expression-at-reads.Asked,
   expression-at-reads.Learnt,
   step-of-reads.Asked,
   step-of-reads.Learnt,
-  finish-reads.Asked,
-  finish-reads.Learnt,
   visit-below t,
   visit.Post,
 ) (visit-at t) visit.Post
-visit-expression-at-requires t c κs = visit-room _ _ _ _ _ (c .before .before .before .before .before .before .before .pre .1) .fits
+visit-expression-at-requires t c κs = visit-room _ _ _ _ (c .before .before .before .before .before .before .pre .1) .fits
 
--- src/check.rt:218:9
 visit-step-of-requires : (t : ℕ) → visit-lts.Need-step-of-requires (
   expression-at-reads.Asked,
   expression-at-reads.Learnt,
   step-of-reads.Asked,
   step-of-reads.Learnt,
-  finish-reads.Asked,
-  finish-reads.Learnt,
   visit-below t,
   visit.Post,
 ) (visit-at t) visit.Post
 visit-step-of-requires t c κs = search needs
 
--- src/check.rt:220:30
 visit-enum-told : (t : ℕ) → visit-lts.Need-enum-told (
   expression-at-reads.Asked,
   expression-at-reads.Learnt,
   step-of-reads.Asked,
   step-of-reads.Learnt,
-  finish-reads.Asked,
-  finish-reads.Learnt,
   visit-below t,
   visit.Post,
 ) (visit-at t) visit.Post
 visit-enum-told t c = search needs
 
--- src/check.rt:220:23
-visit-finish-requires : (t : ℕ) → visit-lts.Need-finish-requires (
+visit-mul-rank : (t : ℕ) → visit-lts.Need-mul-rank (
   expression-at-reads.Asked,
   expression-at-reads.Learnt,
   step-of-reads.Asked,
   step-of-reads.Learnt,
-  finish-reads.Asked,
-  finish-reads.Learnt,
   visit-below t,
   visit.Post,
 ) (visit-at t) visit.Post
-visit-finish-requires t c κs = finish-asks _ _ _ _ _ (c .before .before .before .before .before .before .before .before .before .before .before .before .before .pre .1) (c .before .before .before .before .before .before .before .if1 .left)
+visit-mul-rank t c = let r = visit-room _ _ _ _ (c .before .before .before .before .before .before .before .before .before .before .pre .1) in omega arith
 
--- src/check.rt:221:19
+visit-slice-write-rank : (t : ℕ) → visit-lts.Need-slice-write-rank (
+  expression-at-reads.Asked,
+  expression-at-reads.Learnt,
+  step-of-reads.Asked,
+  step-of-reads.Learnt,
+  visit-below t,
+  visit.Post,
+) (visit-at t) visit.Post
+visit-slice-write-rank t c = let r = visit-room _ _ _ _ (c .before .before .before .before .before .before .before .before .before .before .pre .1) in omega arith
+
+visit-add-result : (t : ℕ) → visit-lts.Need-add-result (
+  expression-at-reads.Asked,
+  expression-at-reads.Learnt,
+  step-of-reads.Asked,
+  step-of-reads.Learnt,
+  visit-below t,
+  visit.Post,
+) (visit-at t) visit.Post
+visit-add-result t c = let f = finish-small _ _ _ _ (c .before .before .before .before .before .before .before .before .before .before .pre .1) (c .before .before .before .before .before .if1 .left) in omega arith
+
 visit-enum-known-s : (t : ℕ) → visit-lts.Need-enum-known-s (
   expression-at-reads.Asked,
   expression-at-reads.Learnt,
   step-of-reads.Asked,
   step-of-reads.Learnt,
-  finish-reads.Asked,
-  finish-reads.Learnt,
   visit-below t,
   visit.Post,
 ) (visit-at t) visit.Post
 visit-enum-known-s t c = search needs
 
--- src/check.rt:222:55
 visit-sub-visit : (t : ℕ) → visit-lts.Need-sub-visit (
   expression-at-reads.Asked,
   expression-at-reads.Learnt,
   step-of-reads.Asked,
   step-of-reads.Learnt,
-  finish-reads.Asked,
-  finish-reads.Learnt,
   visit-below t,
   visit.Post,
 ) (visit-at t) visit.Post
 visit-sub-visit t c = search needs
 
--- src/check.rt:222:17
 visit-visit-requires : (t : ℕ) → visit-lts.Need-visit-requires (
   expression-at-reads.Asked,
   expression-at-reads.Learnt,
   step-of-reads.Asked,
   step-of-reads.Learnt,
-  finish-reads.Asked,
-  finish-reads.Learnt,
   visit-below t,
   visit.Post,
 ) (visit-at t) visit.Post
-visit-visit-requires t c κs = (omega arith, visit-left _ _ _ _ _ (c .before .before .before .before .before .before .before .before .before .before .before .before .before .before .pre .1) _ _ (ap stepOf (sym (c .before .before .before .before .before .before .expression-at .ensures)) ∙ sym (c .before .before .before .before .before .step-of .ensures) ∙ c .before .before .before .s .given .1))
+visit-visit-requires t c κs = (omega arith, visit-left _ _ _ _ (c .before .before .before .before .before .before .before .before .before .before .before .before .pre .1) _ _ (ap stepOf (sym (c .before .before .before .before .before .expression-at .ensures)) ∙ sym (c .before .before .before .before .step-of .ensures) ∙ c .before .before .s .given .1))
 
--- src/check.rt:224:17
 visit-same-length : (t : ℕ) → visit-lts.Need-same-length (
   expression-at-reads.Asked,
   expression-at-reads.Learnt,
   step-of-reads.Asked,
   step-of-reads.Learnt,
-  finish-reads.Asked,
-  finish-reads.Learnt,
   visit-below t,
   visit.Post,
 ) (visit-at t) visit.Post
 visit-same-length t c = search needs
 
--- src/check.rt:224:17
-visit-same-length-2 : (t : ℕ) → visit-lts.Need-same-length-2 (
-  expression-at-reads.Asked,
-  expression-at-reads.Learnt,
-  step-of-reads.Asked,
-  step-of-reads.Learnt,
-  finish-reads.Asked,
-  finish-reads.Learnt,
-  visit-below t,
-  visit.Post,
-) (visit-at t) visit.Post
-visit-same-length-2 t c = search needs
-
--- src/check.rt:224:17
 visit-returns-3 : (t : ℕ) → visit-lts.Need-returns-3 (
   expression-at-reads.Asked,
   expression-at-reads.Learnt,
   step-of-reads.Asked,
   step-of-reads.Learnt,
-  finish-reads.Asked,
-  finish-reads.Learnt,
   visit-below t,
   visit.Post,
 ) (visit-at t) visit.Post
-visit-returns-3 t c = visit-fails _ _ _ _ _ _ (goes-left _ _ _ _ _ (c .before .before .before .before .before .before .before .before .before .before .before .before .before .before .before .before .before .before .before .before .pre .1) _ _ (ap stepOf (sym (c .before .before .before .before .before .before .before .before .before .before .before .before .expression-at .ensures)) ∙ sym (c .before .before .before .before .before .before .before .before .before .before .before .step-of .ensures) ∙ c .before .before .before .before .before .before .before .before .before .s .given .1) _ (c .before .before .before .before .before .before .before .before .before .before .before .before .before .if2 .left) (c .before .before .before .before .before .visit .ensures .goes-on (c .if3 .taken)))
+visit-returns-3 t c = visit-fails _ _ _ _ _ (goes-left _ _ _ _ (c .before .before .before .before .before .before .before .before .before .before .before .before .before .before .before .before .pre .1) _ _ (ap stepOf (sym (c .before .before .before .before .before .before .before .before .before .expression-at .ensures)) ∙ sym (c .before .before .before .before .before .before .before .before .step-of .ensures) ∙ c .before .before .before .before .before .before .s .given .1) _ (c .before .before .before .before .before .before .before .before .before .before .if2 .left) (c .before .before .before .visit .ensures .goes-on (c .if3 .taken)))
 
--- src/check.rt:226:55
 visit-sub-visit-2 : (t : ℕ) → visit-lts.Need-sub-visit-2 (
   expression-at-reads.Asked,
   expression-at-reads.Learnt,
   step-of-reads.Asked,
   step-of-reads.Learnt,
-  finish-reads.Asked,
-  finish-reads.Learnt,
   visit-below t,
   visit.Post,
 ) (visit-at t) visit.Post
 visit-sub-visit-2 t c = search needs
 
--- src/check.rt:226:17
 visit-visit-requires-2 : (t : ℕ) → visit-lts.Need-visit-requires-2 (
   expression-at-reads.Asked,
   expression-at-reads.Learnt,
   step-of-reads.Asked,
   step-of-reads.Learnt,
-  finish-reads.Asked,
-  finish-reads.Learnt,
   visit-below t,
   visit.Post,
 ) (visit-at t) visit.Post
-visit-visit-requires-2 t c κs = (omega arith, visit-right _ _ _ _ _ (c .before .before .before .before .before .before .before .before .before .before .before .before .before .before .before .before .before .before .before .before .before .before .pre .1) _ _ (ap stepOf (sym (c .before .before .before .before .before .before .before .before .before .before .before .before .before .before .expression-at .ensures)) ∙ sym (c .before .before .before .before .before .before .before .before .before .before .before .before .before .step-of .ensures) ∙ c .before .before .before .before .before .before .before .before .before .before .before .s .given .1) _ _ _ _ (c .before .before .before .before .before .before .before .visit .kept .1 .0) (c .before .before .before .before .before .before .before .visit .kept .1 .1 .0) (c .before .before .before .before .before .before .before .visit .ensures) (c .before .before .if3 .left))
+visit-visit-requires-2 t c κs = (omega arith, visit-right _ _ _ _ (c .before .before .before .before .before .before .before .before .before .before .before .before .before .before .before .before .before .pre .1) _ _ (ap stepOf (sym (c .before .before .before .before .before .before .before .before .before .before .expression-at .ensures)) ∙ sym (c .before .before .before .before .before .before .before .before .before .step-of .ensures) ∙ c .before .before .before .before .before .before .before .s .given .1) _ _ _ (c .before .before .before .before .visit .kept .1 .0) (c .before .before .before .before .visit .ensures) (c .before .if3 .left))
 
--- src/check.rt:228:17
-visit-same-length-3 : (t : ℕ) → visit-lts.Need-same-length-3 (
+visit-same-length-2 : (t : ℕ) → visit-lts.Need-same-length-2 (
   expression-at-reads.Asked,
   expression-at-reads.Learnt,
   step-of-reads.Asked,
   step-of-reads.Learnt,
-  finish-reads.Asked,
-  finish-reads.Learnt,
   visit-below t,
   visit.Post,
 ) (visit-at t) visit.Post
-visit-same-length-3 t c = search needs
+visit-same-length-2 t c = search needs
 
--- src/check.rt:228:17
-visit-same-length-4 : (t : ℕ) → visit-lts.Need-same-length-4 (
-  expression-at-reads.Asked,
-  expression-at-reads.Learnt,
-  step-of-reads.Asked,
-  step-of-reads.Learnt,
-  finish-reads.Asked,
-  finish-reads.Learnt,
-  visit-below t,
-  visit.Post,
-) (visit-at t) visit.Post
-visit-same-length-4 t c = search needs
-
--- src/check.rt:228:17
 visit-returns-4 : (t : ℕ) → visit-lts.Need-returns-4 (
   expression-at-reads.Asked,
   expression-at-reads.Learnt,
   step-of-reads.Asked,
   step-of-reads.Learnt,
-  finish-reads.Asked,
-  finish-reads.Learnt,
   visit-below t,
   visit.Post,
 ) (visit-at t) visit.Post
-visit-returns-4 t c = visit-fails _ _ _ _ _ _ (goes-right _ _ _ _ _ (c .before .before .before .before .before .before .before .before .before .before .before .before .before .before .before .before .before .before .before .before .before .before .before .before .before .before .before .before .pre .1) _ _ (ap stepOf (sym (c .before .before .before .before .before .before .before .before .before .before .before .before .before .before .before .before .before .before .before .before .expression-at .ensures)) ∙ sym (c .before .before .before .before .before .before .before .before .before .before .before .before .before .before .before .before .before .before .before .step-of .ensures) ∙ c .before .before .before .before .before .before .before .before .before .before .before .before .before .before .before .before .before .s .given .1) _ (c .before .before .before .before .before .before .before .before .before .before .before .before .before .before .before .before .before .before .before .before .before .if2 .left) (c .before .before .before .before .before .visit2 .ensures .goes-on (c .if4 .taken)))
+visit-returns-4 t c = visit-fails _ _ _ _ _ (goes-right _ _ _ _ (c .before .before .before .before .before .before .before .before .before .before .before .before .before .before .before .before .before .before .before .before .before .pre .1) _ _ (ap stepOf (sym (c .before .before .before .before .before .before .before .before .before .before .before .before .before .before .expression-at .ensures)) ∙ sym (c .before .before .before .before .before .before .before .before .before .before .before .before .before .step-of .ensures) ∙ c .before .before .before .before .before .before .before .before .before .before .before .s .given .1) _ (c .before .before .before .before .before .before .before .before .before .before .before .before .before .before .before .if2 .left) (c .before .before .before .visit2 .ensures .goes-on (c .if4 .taken)))
 
--- src/check.rt:230:13
-visit-finish-requires-2 : (t : ℕ) → visit-lts.Need-finish-requires-2 (
+visit-mul-rank-2 : (t : ℕ) → visit-lts.Need-mul-rank-2 (
   expression-at-reads.Asked,
   expression-at-reads.Learnt,
   step-of-reads.Asked,
   step-of-reads.Learnt,
-  finish-reads.Asked,
-  finish-reads.Learnt,
   visit-below t,
   visit.Post,
 ) (visit-at t) visit.Post
-visit-finish-requires-2 t c κs = finish-asks _ _ _ _ _ (visit-node _ _ _ _ _ (c .before .before .before .before .before .before .before .before .before .before .before .before .before .before .before .before .before .before .before .before .before .before .before .before .before .before .before .before .before .before .pre .1) _ _ (ap stepOf (sym (c .before .before .before .before .before .before .before .before .before .before .before .before .before .before .before .before .before .before .before .before .before .before .expression-at .ensures)) ∙ sym (c .before .before .before .before .before .before .before .before .before .before .before .before .before .before .before .before .before .before .before .before .before .step-of .ensures) ∙ c .before .before .before .before .before .before .before .before .before .before .before .before .before .before .before .before .before .before .before .s .given .1) _ _ _ _ (c .before .before .before .before .before .before .before .before .before .before .before .before .before .before .before .visit .kept .1 .0) (c .before .before .before .before .before .before .before .before .before .before .before .before .before .before .before .visit .kept .1 .1 .0) (c .before .before .before .before .before .before .before .before .before .before .before .before .before .before .before .visit .ensures) (c .before .before .before .before .before .before .before .before .before .before .if3 .left) _ _ _ _ (c .before .before .before .before .before .before .before .visit2 .kept .1 .0) (c .before .before .before .before .before .before .before .visit2 .kept .1 .1 .0) (c .before .before .before .before .before .before .before .visit2 .ensures) (c .before .before .if4 .left)) (still-unfinished _ _ _ _ _ (c .before .before .before .before .before .before .before .before .before .before .before .before .before .before .before .before .before .before .before .before .before .before .before .before .before .before .before .before .before .before .pre .1) _ _ (ap stepOf (sym (c .before .before .before .before .before .before .before .before .before .before .before .before .before .before .before .before .before .before .before .before .before .before .expression-at .ensures)) ∙ sym (c .before .before .before .before .before .before .before .before .before .before .before .before .before .before .before .before .before .before .before .before .before .step-of .ensures) ∙ c .before .before .before .before .before .before .before .before .before .before .before .before .before .before .before .before .before .before .before .s .given .1) _ _ _ _ (c .before .before .before .before .before .before .before .before .before .before .before .before .before .before .before .visit .kept .1 .0) (c .before .before .before .before .before .before .before .before .before .before .before .before .before .before .before .visit .kept .1 .1 .0) (c .before .before .before .before .before .before .before .before .before .before .before .before .before .before .before .visit .ensures) (c .before .before .before .before .before .before .before .before .before .before .if3 .left) _ _ _ _ (c .before .before .before .before .before .before .before .visit2 .kept .1 .0) (c .before .before .before .before .before .before .before .visit2 .kept .1 .1 .0) (c .before .before .before .before .before .before .before .visit2 .ensures) (c .before .before .if4 .left) (c .before .before .before .before .before .before .before .before .before .before .before .before .before .before .before .before .before .before .before .before .before .before .before .before .if1 .left))
+visit-mul-rank-2 t c = let r = visit-room _ _ _ _ (visit-node _ _ _ _ (c .before .before .before .before .before .before .before .before .before .before .before .before .before .before .before .before .before .before .before .before .before .pre .1) _ _ (ap stepOf (sym (c .before .before .before .before .before .before .before .before .before .before .before .before .before .before .expression-at .ensures)) ∙ sym (c .before .before .before .before .before .before .before .before .before .before .before .before .before .step-of .ensures) ∙ c .before .before .before .before .before .before .before .before .before .before .before .s .given .1) _ _ _ (c .before .before .before .before .before .before .before .before .visit .kept .1 .0) (c .before .before .before .before .before .before .before .before .visit .ensures) (c .before .before .before .before .before .if3 .left) _ _ _ (c .before .before .before .visit2 .kept .1 .0) (c .before .before .before .visit2 .ensures) (c .if4 .left)) in omega arith
 
--- src/check.rt:207:1
-visit-same-length-5 : (t : ℕ) → visit-lts.Need-same-length-5 (
+visit-slice-write-rank-2 : (t : ℕ) → visit-lts.Need-slice-write-rank-2 (
   expression-at-reads.Asked,
   expression-at-reads.Learnt,
   step-of-reads.Asked,
   step-of-reads.Learnt,
-  finish-reads.Asked,
-  finish-reads.Learnt,
   visit-below t,
   visit.Post,
 ) (visit-at t) visit.Post
-visit-same-length-5 t c = search needs
+visit-slice-write-rank-2 t c = visit-room _ _ _ _ (visit-node _ _ _ _ (c .before .before .before .before .before .before .before .before .before .before .before .before .before .before .before .before .before .before .before .before .before .pre .1) _ _ (ap stepOf (sym (c .before .before .before .before .before .before .before .before .before .before .before .before .before .before .expression-at .ensures)) ∙ sym (c .before .before .before .before .before .before .before .before .before .before .before .before .before .step-of .ensures) ∙ c .before .before .before .before .before .before .before .before .before .before .before .s .given .1) _ _ _ (c .before .before .before .before .before .before .before .before .visit .kept .1 .0) (c .before .before .before .before .before .before .before .before .visit .ensures) (c .before .before .before .before .before .if3 .left) _ _ _ (c .before .before .before .visit2 .kept .1 .0) (c .before .before .before .visit2 .ensures) (c .if4 .left)) .in-rank
 
--- src/check.rt:207:1
-visit-same-length-6 : (t : ℕ) → visit-lts.Need-same-length-6 (
+visit-add-result-2 : (t : ℕ) → visit-lts.Need-add-result-2 (
   expression-at-reads.Asked,
   expression-at-reads.Learnt,
   step-of-reads.Asked,
   step-of-reads.Learnt,
-  finish-reads.Asked,
-  finish-reads.Learnt,
   visit-below t,
   visit.Post,
 ) (visit-at t) visit.Post
-visit-same-length-6 t c = search needs
+visit-add-result-2 t c = let f = finish-small _ _ _ _ (visit-node _ _ _ _ (c .before .before .before .before .before .before .before .before .before .before .before .before .before .before .before .before .before .before .before .before .before .pre .1) _ _ (ap stepOf (sym (c .before .before .before .before .before .before .before .before .before .before .before .before .before .before .expression-at .ensures)) ∙ sym (c .before .before .before .before .before .before .before .before .before .before .before .before .before .step-of .ensures) ∙ c .before .before .before .before .before .before .before .before .before .before .before .s .given .1) _ _ _ (c .before .before .before .before .before .before .before .before .visit .kept .1 .0) (c .before .before .before .before .before .before .before .before .visit .ensures) (c .before .before .before .before .before .if3 .left) _ _ _ (c .before .before .before .visit2 .kept .1 .0) (c .before .before .before .visit2 .ensures) (c .if4 .left)) (still-unfinished _ _ _ _ (c .before .before .before .before .before .before .before .before .before .before .before .before .before .before .before .before .before .before .before .before .before .pre .1) _ _ (ap stepOf (sym (c .before .before .before .before .before .before .before .before .before .before .before .before .before .before .expression-at .ensures)) ∙ sym (c .before .before .before .before .before .before .before .before .before .before .before .before .before .step-of .ensures) ∙ c .before .before .before .before .before .before .before .before .before .before .before .s .given .1) _ _ _ (c .before .before .before .before .before .before .before .before .visit .kept .1 .0) (c .before .before .before .before .before .before .before .before .visit .ensures) (c .before .before .before .before .before .if3 .left) _ _ _ (c .before .before .before .visit2 .kept .1 .0) (c .before .before .before .visit2 .ensures) (c .if4 .left) (c .before .before .before .before .before .before .before .before .before .before .before .before .before .before .before .before .if1 .left)) in omega arith
 
--- src/check.rt:207:1
+visit-same-length-3 : (t : ℕ) → visit-lts.Need-same-length-3 (
+  expression-at-reads.Asked,
+  expression-at-reads.Learnt,
+  step-of-reads.Asked,
+  step-of-reads.Learnt,
+  visit-below t,
+  visit.Post,
+) (visit-at t) visit.Post
+visit-same-length-3 t c = search needs
+
 visit-returns-5 : (t : ℕ) → visit-lts.Need-returns-5 (
   expression-at-reads.Asked,
   expression-at-reads.Learnt,
   step-of-reads.Asked,
   step-of-reads.Learnt,
-  finish-reads.Asked,
-  finish-reads.Learnt,
   visit-below t,
   visit.Post,
 ) (visit-at t) visit.Post
-visit-returns-5 t c = finish-visit _ _ _ _ _ (c .before .before .before .before .before .before .before .before .before .before .before .before .before .before .before .before .before .before .pre .1) (c .before .before .before .before .before .before .before .before .before .before .before .before .if1 .left) _ _ _ _ _ (λ j h. refl) (stay-ready _ (c .before .before .before .before .before .before .before .before .before .before .before .before .before .before .before .before .before .before .args .rank .now) _ (ap stepOf (sym (c .before .before .before .before .before .before .before .before .before .before .expression-at .ensures)) ∙ sym (c .before .before .before .before .before .before .before .before .before .step-of .ensures) ∙ c .before .before .before .before .before .before .before .enum-told .given .1)) (c .before .before .before .before .finish .ensures)
+visit-returns-5 t c = finish-visit _ _ _ _ (c .before .before .before .before .before .before .before .before .before .before .pre .1) (c .before .before .before .before .before .if1 .left) _ _ (λ j h. refl) (stay-ready _ (c .before .before .before .before .before .before .before .before .before .before .args .rank .now) _ (ap stepOf (sym (c .before .before .before .expression-at .ensures)) ∙ sym (c .before .before .step-of .ensures) ∙ c .enum-told .given .1))
 
--- src/check.rt:207:1
-visit-same-length-7 : (t : ℕ) → visit-lts.Need-same-length-7 (
+visit-same-length-4 : (t : ℕ) → visit-lts.Need-same-length-4 (
   expression-at-reads.Asked,
   expression-at-reads.Learnt,
   step-of-reads.Asked,
   step-of-reads.Learnt,
-  finish-reads.Asked,
-  finish-reads.Learnt,
   visit-below t,
   visit.Post,
 ) (visit-at t) visit.Post
-visit-same-length-7 t c = search needs
+visit-same-length-4 t c = simp length-set (omega (arith, c .before .before .before .visit2 .kept .1 .0, c .before .before .before .before .before .before .before .before .visit .kept .1 .0))
 
--- src/check.rt:207:1
-visit-same-length-8 : (t : ℕ) → visit-lts.Need-same-length-8 (
-  expression-at-reads.Asked,
-  expression-at-reads.Learnt,
-  step-of-reads.Asked,
-  step-of-reads.Learnt,
-  finish-reads.Asked,
-  finish-reads.Learnt,
-  visit-below t,
-  visit.Post,
-) (visit-at t) visit.Post
-visit-same-length-8 t c = search needs
-
--- src/check.rt:207:1
 visit-returns-6 : (t : ℕ) → visit-lts.Need-returns-6 (
   expression-at-reads.Asked,
   expression-at-reads.Learnt,
   step-of-reads.Asked,
   step-of-reads.Learnt,
-  finish-reads.Asked,
-  finish-reads.Learnt,
   visit-below t,
   visit.Post,
 ) (visit-at t) visit.Post
-visit-returns-6 t c = finish-visit _ _ _ _ _ (visit-node _ _ _ _ _ (c .before .before .before .before .before .before .before .before .before .before .before .before .before .before .before .before .before .before .before .before .before .before .before .before .before .before .before .before .before .before .before .before .before .before .before .pre .1) _ _ (ap stepOf (sym (c .before .before .before .before .before .before .before .before .before .before .before .before .before .before .before .before .before .before .before .before .before .before .before .before .before .before .before .expression-at .ensures)) ∙ sym (c .before .before .before .before .before .before .before .before .before .before .before .before .before .before .before .before .before .before .before .before .before .before .before .before .before .before .step-of .ensures) ∙ c .before .before .before .before .before .before .before .before .before .before .before .before .before .before .before .before .before .before .before .before .before .before .before .before .s .given .1) _ _ _ _ (c .before .before .before .before .before .before .before .before .before .before .before .before .before .before .before .before .before .before .before .before .visit .kept .1 .0) (c .before .before .before .before .before .before .before .before .before .before .before .before .before .before .before .before .before .before .before .before .visit .kept .1 .1 .0) (c .before .before .before .before .before .before .before .before .before .before .before .before .before .before .before .before .before .before .before .before .visit .ensures) (c .before .before .before .before .before .before .before .before .before .before .before .before .before .before .before .if3 .left) _ _ _ _ (c .before .before .before .before .before .before .before .before .before .before .before .before .visit2 .kept .1 .0) (c .before .before .before .before .before .before .before .before .before .before .before .before .visit2 .kept .1 .1 .0) (c .before .before .before .before .before .before .before .before .before .before .before .before .visit2 .ensures) (c .before .before .before .before .before .before .before .if4 .left)) (still-unfinished _ _ _ _ _ (c .before .before .before .before .before .before .before .before .before .before .before .before .before .before .before .before .before .before .before .before .before .before .before .before .before .before .before .before .before .before .before .before .before .before .before .pre .1) _ _ (ap stepOf (sym (c .before .before .before .before .before .before .before .before .before .before .before .before .before .before .before .before .before .before .before .before .before .before .before .before .before .before .before .expression-at .ensures)) ∙ sym (c .before .before .before .before .before .before .before .before .before .before .before .before .before .before .before .before .before .before .before .before .before .before .before .before .before .before .step-of .ensures) ∙ c .before .before .before .before .before .before .before .before .before .before .before .before .before .before .before .before .before .before .before .before .before .before .before .before .s .given .1) _ _ _ _ (c .before .before .before .before .before .before .before .before .before .before .before .before .before .before .before .before .before .before .before .before .visit .kept .1 .0) (c .before .before .before .before .before .before .before .before .before .before .before .before .before .before .before .before .before .before .before .before .visit .kept .1 .1 .0) (c .before .before .before .before .before .before .before .before .before .before .before .before .before .before .before .before .before .before .before .before .visit .ensures) (c .before .before .before .before .before .before .before .before .before .before .before .before .before .before .before .if3 .left) _ _ _ _ (c .before .before .before .before .before .before .before .before .before .before .before .before .visit2 .kept .1 .0) (c .before .before .before .before .before .before .before .before .before .before .before .before .visit2 .kept .1 .1 .0) (c .before .before .before .before .before .before .before .before .before .before .before .before .visit2 .ensures) (c .before .before .before .before .before .before .before .if4 .left) (c .before .before .before .before .before .before .before .before .before .before .before .before .before .before .before .before .before .before .before .before .before .before .before .before .before .before .before .before .before .if1 .left)) _ _ _ _ _ (two-kept _ _ _ _ _ (c .before .before .before .before .before .before .before .before .before .before .before .before .before .before .before .before .before .before .before .before .before .before .before .before .before .before .before .before .before .before .before .before .before .before .before .pre .1) _ _ (ap stepOf (sym (c .before .before .before .before .before .before .before .before .before .before .before .before .before .before .before .before .before .before .before .before .before .before .before .before .before .before .before .expression-at .ensures)) ∙ sym (c .before .before .before .before .before .before .before .before .before .before .before .before .before .before .before .before .before .before .before .before .before .before .before .before .before .before .step-of .ensures) ∙ c .before .before .before .before .before .before .before .before .before .before .before .before .before .before .before .before .before .before .before .before .before .before .before .before .s .given .1) _ _ _ _ (c .before .before .before .before .before .before .before .before .before .before .before .before .before .before .before .before .before .before .before .before .visit .kept .1 .0) (c .before .before .before .before .before .before .before .before .before .before .before .before .before .before .before .before .before .before .before .before .visit .kept .1 .1 .0) (c .before .before .before .before .before .before .before .before .before .before .before .before .before .before .before .before .before .before .before .before .visit .ensures) (c .before .before .before .before .before .before .before .before .before .before .before .before .before .before .before .if3 .left) _ _ _ _ (c .before .before .before .before .before .before .before .before .before .before .before .before .visit2 .kept .1 .0) (c .before .before .before .before .before .before .before .before .before .before .before .before .visit2 .kept .1 .1 .0) (c .before .before .before .before .before .before .before .before .before .before .before .before .visit2 .ensures) (c .before .before .before .before .before .before .before .if4 .left)) (two-ready _ _ _ _ _ (c .before .before .before .before .before .before .before .before .before .before .before .before .before .before .before .before .before .before .before .before .before .before .before .before .before .before .before .before .before .before .before .before .before .before .before .pre .1) _ _ (ap stepOf (sym (c .before .before .before .before .before .before .before .before .before .before .before .before .before .before .before .before .before .before .before .before .before .before .before .before .before .before .before .expression-at .ensures)) ∙ sym (c .before .before .before .before .before .before .before .before .before .before .before .before .before .before .before .before .before .before .before .before .before .before .before .before .before .before .step-of .ensures) ∙ c .before .before .before .before .before .before .before .before .before .before .before .before .before .before .before .before .before .before .before .before .before .before .before .before .s .given .1) _ _ _ _ (c .before .before .before .before .before .before .before .before .before .before .before .before .before .before .before .before .before .before .before .before .visit .kept .1 .0) (c .before .before .before .before .before .before .before .before .before .before .before .before .before .before .before .before .before .before .before .before .visit .kept .1 .1 .0) (c .before .before .before .before .before .before .before .before .before .before .before .before .before .before .before .before .before .before .before .before .visit .ensures) (c .before .before .before .before .before .before .before .before .before .before .before .before .before .before .before .if3 .left) _ _ _ _ (c .before .before .before .before .before .before .before .before .before .before .before .before .visit2 .kept .1 .0) (c .before .before .before .before .before .before .before .before .before .before .before .before .visit2 .kept .1 .1 .0) (c .before .before .before .before .before .before .before .before .before .before .before .before .visit2 .ensures) (c .before .before .before .before .before .before .before .if4 .left)) (c .before .before .before .before .finish2 .ensures)
+visit-returns-6 t c = finish-visit _ _ _ _ (visit-node _ _ _ _ (c .before .before .before .before .before .before .before .before .before .before .before .before .before .before .before .before .before .before .before .before .before .pre .1) _ _ (ap stepOf (sym (c .before .before .before .before .before .before .before .before .before .before .before .before .before .before .expression-at .ensures)) ∙ sym (c .before .before .before .before .before .before .before .before .before .before .before .before .before .step-of .ensures) ∙ c .before .before .before .before .before .before .before .before .before .before .before .s .given .1) _ _ _ (c .before .before .before .before .before .before .before .before .visit .kept .1 .0) (c .before .before .before .before .before .before .before .before .visit .ensures) (c .before .before .before .before .before .if3 .left) _ _ _ (c .before .before .before .visit2 .kept .1 .0) (c .before .before .before .visit2 .ensures) (c .if4 .left)) (still-unfinished _ _ _ _ (c .before .before .before .before .before .before .before .before .before .before .before .before .before .before .before .before .before .before .before .before .before .pre .1) _ _ (ap stepOf (sym (c .before .before .before .before .before .before .before .before .before .before .before .before .before .before .expression-at .ensures)) ∙ sym (c .before .before .before .before .before .before .before .before .before .before .before .before .before .step-of .ensures) ∙ c .before .before .before .before .before .before .before .before .before .before .before .s .given .1) _ _ _ (c .before .before .before .before .before .before .before .before .visit .kept .1 .0) (c .before .before .before .before .before .before .before .before .visit .ensures) (c .before .before .before .before .before .if3 .left) _ _ _ (c .before .before .before .visit2 .kept .1 .0) (c .before .before .before .visit2 .ensures) (c .if4 .left) (c .before .before .before .before .before .before .before .before .before .before .before .before .before .before .before .before .if1 .left)) _ _ (two-kept _ _ _ _ (c .before .before .before .before .before .before .before .before .before .before .before .before .before .before .before .before .before .before .before .before .before .pre .1) _ _ (ap stepOf (sym (c .before .before .before .before .before .before .before .before .before .before .before .before .before .before .expression-at .ensures)) ∙ sym (c .before .before .before .before .before .before .before .before .before .before .before .before .before .step-of .ensures) ∙ c .before .before .before .before .before .before .before .before .before .before .before .s .given .1) _ _ _ (c .before .before .before .before .before .before .before .before .visit .kept .1 .0) (c .before .before .before .before .before .before .before .before .visit .ensures) (c .before .before .before .before .before .if3 .left) _ _ _ (c .before .before .before .visit2 .kept .1 .0) (c .before .before .before .visit2 .ensures) (c .if4 .left)) (two-ready _ _ _ _ (c .before .before .before .before .before .before .before .before .before .before .before .before .before .before .before .before .before .before .before .before .before .pre .1) _ _ (ap stepOf (sym (c .before .before .before .before .before .before .before .before .before .before .before .before .before .before .expression-at .ensures)) ∙ sym (c .before .before .before .before .before .before .before .before .before .before .before .before .before .step-of .ensures) ∙ c .before .before .before .before .before .before .before .before .before .before .before .s .given .1) _ _ _ (c .before .before .before .before .before .before .before .before .visit .kept .1 .0) (c .before .before .before .before .before .before .before .before .visit .ensures) (c .before .before .before .before .before .if3 .left) _ _ _ (c .before .before .before .visit2 .kept .1 .0) (c .before .before .before .visit2 .ensures) (c .if4 .left))
 
 pub +visit-spec : {M : Type 1} → statement M
 +visit-spec = close μ-visit λ t. visit-lts.spec (
@@ -381,8 +300,6 @@ pub +visit-spec : {M : Type 1} → statement M
   expression-at-reads.Learnt,
   step-of-reads.Asked,
   step-of-reads.Learnt,
-  finish-reads.Asked,
-  finish-reads.Learnt,
   visit-below t,
   visit.Post,
 )
@@ -396,22 +313,22 @@ pub +visit-spec : {M : Type 1} → statement M
     (visit-expression-at-requires t)
     (visit-step-of-requires t)
     (visit-enum-told t)
-    (visit-finish-requires t)
+    (visit-mul-rank t)
+    (visit-slice-write-rank t)
+    (visit-add-result t)
     (visit-enum-known-s t)
     (visit-sub-visit t)
     (visit-visit-requires t)
     (visit-same-length t)
-    (visit-same-length-2 t)
     (visit-returns-3 t)
     (visit-sub-visit-2 t)
     (visit-visit-requires-2 t)
-    (visit-same-length-3 t)
-    (visit-same-length-4 t)
+    (visit-same-length-2 t)
     (visit-returns-4 t)
-    (visit-finish-requires-2 t)
-    (visit-same-length-5 t)
-    (visit-same-length-6 t)
+    (visit-mul-rank-2 t)
+    (visit-slice-write-rank-2 t)
+    (visit-add-result-2 t)
+    (visit-same-length-3 t)
     (visit-returns-5 t)
-    (visit-same-length-7 t)
-    (visit-same-length-8 t)
+    (visit-same-length-4 t)
     (visit-returns-6 t)

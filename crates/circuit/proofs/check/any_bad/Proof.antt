@@ -9,9 +9,6 @@ use Rattle.circuit.proofs.Tests.{any-one, any-next, any-start}
 use Rattle.circuit.proofs.Valid.{header-room, header-fits, header-top}
 use Rattle.circuit.proofs.check.any_bad.Statement.{statement}
 use Rattle.circuit.proofs.check.any_bad.Tie as tie
-use Rattle.circuit.proofs.check.any_bad.Reads as reads
-use Rattle.circuit.proofs.check.any_bad.Lts as lts
-use Rattle.circuit.proofs.check.bad_node.Reads as bad-node-reads
 
 abbrev Inv-loop : tie.InvT-loop
 Inv-loop m n i₀ i = (i ≤ n) × (any (badNode m) (upTo i) ≡ false)
@@ -19,35 +16,27 @@ Inv-loop m n i₀ i = (i ≤ n) × (any (badNode m) (upTo i) ≡ false)
 abbrev μ-loop : tie.MeasureT-loop
 μ-loop m n i₀ i = n - i
 
--- src/check.rt:164:13
 shared-slice-read-n : tie.Need-shared-slice-read-n Inv-loop μ-loop
 shared-slice-read-n c = let h = header-room _ (c .before .before .pre) .0 in omega arith
 
--- src/check.rt:166:5
 loop-holds : tie.Need-loop-holds Inv-loop μ-loop
 loop-holds c = (omega arith, any-start (badNode (c .before .before .args .m .now)))
 
--- src/check.rt:167:12
 bad-node-requires : tie.Need-bad-node-requires Inv-loop μ-loop
 bad-node-requires c κs = header-fits _ _ (c .before .before .before .before .pre) (c .loop-test .taken)
 
--- src/check.rt:168:13
 returns : tie.Need-returns Inv-loop μ-loop
 returns c = sym (any-one (badNode (c .before .before .before .before .before .before .args .m .now)) _ _ (c .before .before .loop-test .taken) (sym (c .before .bad-node .ensures) ∙ c .if1 .taken))
 
--- src/check.rt:170:9
 add-i : tie.Need-add-i Inv-loop μ-loop
 add-i c = omega (arith, header-top (c .before .before .before .before .before .before .args .m .now) (c .before .before .before .before .before .before .pre))
 
--- src/check.rt:166:5
 loop-less : tie.Need-loop-less Inv-loop μ-loop
 loop-less c = omega arith
 
--- src/check.rt:166:5
 loop-again : tie.Need-loop-again Inv-loop μ-loop
 loop-again c = (omega arith, any-next (badNode (c .before .before .before .before .before .before .args .m .now)) _ (c .before .before .before .loop .inv .1) (sym (c .before .bad-node .ensures) ∙ c .if1 .left))
 
--- src/check.rt:160:1
 returns-2 : tie.Need-returns-2 Inv-loop μ-loop
 returns-2 c =
     let m = c .before .before .before .before .args .m .now in

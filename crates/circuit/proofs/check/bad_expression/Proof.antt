@@ -1,107 +1,77 @@
 use mathlib.Core.Path.{sym, _∙_}
 use borrow.Author.Tests.{le-leb, lt-leb}
 use Rattle.circuit.specs.NotCircuit.{badExpression}
-use native.Mathlib.Omega.{arith}
 use borrow.Author.Needs.{needs}
 use Rattle.circuit.proofs.check.bad_expression.Statement.{statement}
 use Rattle.circuit.proofs.check.bad_expression.Tie as tie
-use Rattle.circuit.proofs.check.bad_expression.Reads as reads
-use Rattle.circuit.proofs.check.bad_expression.Lts as lts
-use Rattle.circuit.proofs.check.bad_index.Reads as bad-index-reads
-use Rattle.circuit.proofs.check.bad_row.Reads as bad-row-reads
-use Rattle.circuit.proofs.check.bad_word.Reads as bad-word-reads
-use Rattle.circuit.proofs.check.bad_words.Reads as bad-words-reads
-use Rattle.field.proofs.extension.unlifts.Reads as unlifts-reads
-use Rattle.circuit.proofs.place.column_of.Reads as column-of-reads
 
--- src/check.rt:121:26
 enum-known-e : tie.Need-enum-known-e
 enum-known-e c = search needs
 
--- src/check.rt:121:32
 bad-word-requires : tie.Need-bad-word-requires
 bad-word-requires c κs = search needs
 
--- src/check.rt:122:31
 enum-known-e-2 : tie.Need-enum-known-e-2
 enum-known-e-2 c = search needs
 
--- src/check.rt:123:16
 bad-words-requires : tie.Need-bad-words-requires
 bad-words-requires c κs = search needs
 
--- src/check.rt:124:17
 returns : tie.Need-returns
 unfolding badExpression
 returns c = rw (c .before .before .before .e2 .given .1, sym (c .before .bad-words .ensures) ∙ c .if1 .taken)
 
--- src/check.rt:126:13
 unlifts-requires : tie.Need-unlifts-requires
 unlifts-requires c κs = search needs
 
--- src/check.rt:128:31
 enum-known-e-3 : tie.Need-enum-known-e-3
 enum-known-e-3 c = search needs
 
--- src/check.rt:128:37
 bad-index-requires : tie.Need-bad-index-requires
 bad-index-requires c κs = search needs
 
--- src/check.rt:129:34
 enum-known-e-4 : tie.Need-enum-known-e-4
 enum-known-e-4 c = search needs
 
--- src/check.rt:130:21
 shared-slice-read-n : tie.Need-shared-slice-read-n
 shared-slice-read-n c = search needs
 
--- src/check.rt:132:17
 returns-2 : tie.Need-returns-2
 unfolding badExpression
 returns-2 c = rw (c .before .before .before .e4 .given .1, le-leb _ _ (c .if2 .taken))
 
--- src/check.rt:136:27
 enum-known-e-5 : tie.Need-enum-known-e-5
 enum-known-e-5 c = search needs
 
--- src/check.rt:137:26
 column-of-requires : tie.Need-column-of-requires
 column-of-requires c κs = search needs
 
--- src/check.rt:137:16
 bad-index-requires-2 : tie.Need-bad-index-requires-2
 bad-index-requires-2 c κs = search needs
 
--- src/check.rt:138:17
 returns-3 : tie.Need-returns-3
 unfolding badExpression
 returns-3 c = rw (c .before .before .before .before .e5 .given .1, ← c .before .before .column-of .ensures, sym (c .before .bad-index2 .ensures) ∙ c .if3 .taken)
 
--- src/check.rt:140:13
 bad-row-requires : tie.Need-bad-row-requires
 bad-row-requires c κs = search needs
 
--- src/check.rt:116:1
 returns-4 : tie.Need-returns-4
 unfolding badExpression
 returns-4 c = rw (c .before .before .e .given .1) (c .bad-word .ensures)
 
--- src/check.rt:116:1
 returns-5 : tie.Need-returns-5
 unfolding badExpression
 returns-5 c = rw (c .before .before .before .before .e2 .given .1, sym (c .before .before .bad-words .ensures) ∙ c .before .if1 .left) (c .unlifts .ensures)
 
--- src/check.rt:116:1
 returns-6 : tie.Need-returns-6
 unfolding badExpression
 returns-6 c = rw (c .before .before .e3 .given .1) (c .bad-index .ensures)
 
--- src/check.rt:116:1
 returns-7 : tie.Need-returns-7
 unfolding badExpression
 returns-7 c = rw (c .before .before .before .e4 .given .1, lt-leb _ _ (c .if2 .left))
 
--- src/check.rt:116:1
 returns-8 : tie.Need-returns-8
 unfolding badExpression
 returns-8 c = rw (c .before .before .before .before .before .e5 .given .1, ← c .before .before .before .column-of .ensures, sym (c .before .before .bad-index2 .ensures) ∙ c .before .if3 .left) (c .bad-row .ensures)

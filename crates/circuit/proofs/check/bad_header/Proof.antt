@@ -6,33 +6,24 @@ use Rattle.circuit.specs.NotCircuit.{badHeader}
 use borrow.Author.Needs.{needs}
 use Rattle.circuit.proofs.check.bad_header.Statement.{statement}
 use Rattle.circuit.proofs.check.bad_header.Tie as tie
-use Rattle.circuit.proofs.check.bad_header.Reads as reads
-use Rattle.circuit.proofs.check.bad_header.Lts as lts
-use Rattle.circuit.proofs.check.limit_of.Reads as limit-of-reads
 
--- src/check.rt:44:9
 returns : tie.Need-returns
 unfolding badHeader
 returns c = rw (lt-ltb _ _ (c .if1 .taken))
 
--- src/check.rt:46:15
 shared-slice-read-row : tie.Need-shared-slice-read-row
 shared-slice-read-row c = search needs
 
--- src/check.rt:49:13
 returns-2 : tie.Need-returns-2
 unfolding badHeader
 returns-2 c = let m = c .before .before .before .before .before .args .m .now in rw (le-ltb (length m) 2 (omega arith), ne-eqb (getD m 0 0) 1 (c .before .if2 .taken), ne-eqb (getD m 0 0) 2 (c .if3 .taken))
 
--- src/check.rt:52:5
 limit-of-requires : tie.Need-limit-of-requires
 limit-of-requires c κs = search needs
 
--- src/check.rt:52:19
 shared-slice-read-result : tie.Need-shared-slice-read-result
 shared-slice-read-result c = search needs
 
--- src/check.rt:40:1
 returns-3 : tie.Need-returns-3
 unfolding badHeader
 returns-3 c =

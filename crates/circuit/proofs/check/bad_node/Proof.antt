@@ -4,58 +4,42 @@ use native.Mathlib.Nat.{add-zero}
 use borrow.Author.Needs.{needs}
 use Rattle.circuit.proofs.check.bad_node.Statement.{statement}
 use Rattle.circuit.proofs.check.bad_node.Tie as tie
-use Rattle.circuit.proofs.check.bad_node.Reads as reads
-use Rattle.circuit.proofs.check.bad_node.Lts as lts
-use Rattle.circuit.proofs.check.bad_expression.Reads as bad-expression-reads
-use Rattle.circuit.proofs.place.expression_at.Reads as expression-at-reads
 
--- src/check.rt:150:18
 mul-at : tie.Need-mul-at
 mul-at c = search needs
 
--- src/check.rt:150:14
 add-at : tie.Need-add-at
 add-at c = search needs
 
--- src/check.rt:151:8
 mul-if1 : tie.Need-mul-if1
 mul-if1 c = search needs
 
--- src/check.rt:151:8
 shared-slice-read-if1 : tie.Need-shared-slice-read-if1
 shared-slice-read-if1 c = search needs
 
--- src/check.rt:152:9
 returns : tie.Need-returns
 unfolding badNode
 returns c = rw (add-zero, lt-ltb _ _ (c .if1 .taken))
 
--- src/check.rt:154:10
 add-if2 : tie.Need-add-if2
 add-if2 c = search needs
 
--- src/check.rt:154:8
 mul-if2 : tie.Need-mul-if2
 mul-if2 c = search needs
 
--- src/check.rt:154:8
 shared-slice-read-if2 : tie.Need-shared-slice-read-if2
 shared-slice-read-if2 c = search needs
 
--- src/check.rt:155:9
 returns-2 : tie.Need-returns-2
 unfolding badNode
 returns-2 c = rw (add-zero, le-ltb _ _ (c .before .before .if1 .left), lt-ltb _ _ (c .if2 .taken))
 
--- src/check.rt:157:23
 expression-at-requires : tie.Need-expression-at-requires
 expression-at-requires c κs = search needs
 
--- src/check.rt:157:5
 bad-expression-requires : tie.Need-bad-expression-requires
 bad-expression-requires c κs = search needs
 
--- src/check.rt:146:1
 returns-3 : tie.Need-returns-3
 unfolding badNode
 returns-3 c = rw (add-zero, le-ltb _ _ (c .before .before .before .before .if1 .left), le-ltb _ _ (c .before .before .if2 .left), ← c .before .expression-at .ensures) (c .bad-expression .ensures)

@@ -3,24 +3,17 @@ use Rattle.circuit.specs.NotCircuit.{badRow}
 use borrow.Author.Needs.{needs}
 use Rattle.circuit.proofs.check.bad_row.Statement.{statement}
 use Rattle.circuit.proofs.check.bad_row.Tie as tie
-use Rattle.circuit.proofs.check.bad_row.Reads as reads
-use Rattle.circuit.proofs.check.bad_row.Lts as lts
-use Rattle.circuit.proofs.check.is_next.Reads as is-next-reads
 
--- src/check.rt:72:8
 is-next-requires : tie.Need-is-next-requires
 is-next-requires c κs = search needs
 
--- src/check.rt:73:16
 shared-slice-read-result : tie.Need-shared-slice-read-result
 shared-slice-read-result c = search needs
 
--- src/check.rt:73:9
 returns : tie.Need-returns
 unfolding badRow
 returns c = rw (sym (c .before .before .is-next .ensures) ∙ c .before .if1 .taken)
 
--- src/check.rt:68:1
 returns-2 : tie.Need-returns-2
 unfolding badRow
 returns-2 c = rw (sym (c .before .is-next .ensures) ∙ c .if1 .left)

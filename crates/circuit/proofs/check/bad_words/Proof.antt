@@ -3,33 +3,24 @@ use Rattle.circuit.specs.NotCircuit.{badWords}
 use borrow.Author.Needs.{needs}
 use Rattle.circuit.proofs.check.bad_words.Statement.{statement}
 use Rattle.circuit.proofs.check.bad_words.Tie as tie
-use Rattle.circuit.proofs.check.bad_words.Reads as reads
-use Rattle.circuit.proofs.check.bad_words.Lts as lts
-use Rattle.circuit.proofs.check.bad_word.Reads as bad-word-reads
 
--- src/check.rt:96:8
 bad-word-requires : tie.Need-bad-word-requires
 bad-word-requires c κs = search needs
 
--- src/check.rt:97:9
 returns : tie.Need-returns
 unfolding badWords
 returns c = rw (sym (c .before .bad-word .ensures) ∙ c .if1 .taken)
 
--- src/check.rt:99:8
 bad-word-requires-2 : tie.Need-bad-word-requires-2
 bad-word-requires-2 c κs = search needs
 
--- src/check.rt:100:9
 returns-2 : tie.Need-returns-2
 unfolding badWords
 returns-2 c = rw (sym (c .before .before .before .bad-word .ensures) ∙ c .before .before .if1 .left, sym (c .before .bad-word2 .ensures) ∙ c .if2 .taken)
 
--- src/check.rt:102:5
 bad-word-requires-3 : tie.Need-bad-word-requires-3
 bad-word-requires-3 c κs = search needs
 
--- src/check.rt:93:1
 returns-3 : tie.Need-returns-3
 unfolding badWords
 returns-3 c = rw (sym (c .before .before .before .before .bad-word .ensures) ∙ c .before .before .before .if1 .left, sym (c .before .before .bad-word2 .ensures) ∙ c .before .if2 .left) (c .bad-word3 .ensures)

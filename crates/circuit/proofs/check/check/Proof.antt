@@ -1,45 +1,32 @@
 use mathlib.Core.Path.{sym, _∙_}
-use Rattle.circuit.proofs.Checks.{header-refused, nodes-refused, walk-decides}
+use Rattle.circuit.proofs.Checks.{header-refused, nodes-refused, order-decides}
 use borrow.Author.Needs.{needs}
 use Rattle.circuit.proofs.check.check.Statement.{statement}
 use Rattle.circuit.proofs.check.check.Tie as tie
-use Rattle.circuit.proofs.check.check.Reads as reads
-use Rattle.circuit.proofs.check.check.Lts as lts
-use Rattle.circuit.proofs.check.any_bad.Reads as any-bad-reads
-use Rattle.circuit.proofs.check.bad_header.Reads as bad-header-reads
-use Rattle.circuit.proofs.check.sort.Reads as sort-reads
 
--- src/check.rt:272:8
 bad-header-requires : tie.Need-bad-header-requires
 bad-header-requires c κs = search needs
 
--- src/check.rt:273:9
 returns : tie.Need-returns
 returns c = header-refused _ _ _ (sym (c .before .bad-header .ensures) ∙ c .if1 .taken)
 
--- src/check.rt:275:8
 any-bad-requires : tie.Need-any-bad-requires
 any-bad-requires c κs = sym (c .before .bad-header .ensures) ∙ c .if1 .left
 
--- src/check.rt:276:9
 returns-2 : tie.Need-returns-2
 returns-2 c = nodes-refused _ _ _ (sym (c .before .before .before .bad-header .ensures) ∙ c .before .before .if1 .left) (sym (c .before .any-bad .ensures) ∙ c .if2 .taken)
 
--- src/check.rt:278:5
 sort-requires : tie.Need-sort-requires
-sort-requires c κs = record { header = sym (c .before .before .before .before .before .bad-header .ensures) ∙ c .before .before .before .before .if1 .left; good = sym (c .before .before .before .any-bad .ensures) ∙ c .before .before .if2 .left; order-room = c .before .before .before .before .before .before .before .before .before .pre .0; rank-room = c .before .before .before .before .before .before .before .before .before .pre .1 }
+sort-requires c κs = (record { header = sym (c .before .before .before .before .before .bad-header .ensures) ∙ c .before .before .before .before .if1 .left; good = sym (c .before .before .before .any-bad .ensures) ∙ c .before .before .if2 .left; room = c .before .before .before .before .before .before .before .before .before .pre .1 }, c .before .before .before .before .before .before .before .before .before .pre .0)
 
--- src/check.rt:268:1
 same-length : tie.Need-same-length
 same-length c = search needs
 
--- src/check.rt:268:1
 same-length-2 : tie.Need-same-length-2
 same-length-2 c = search needs
 
--- src/check.rt:268:1
 returns-3 : tie.Need-returns-3
-returns-3 c = walk-decides _ _ _ _ (sym (c .before .before .before .before .before .before .before .before .before .before .bad-header .ensures) ∙ c .before .before .before .before .before .before .before .before .before .if1 .left) (sym (c .before .before .before .before .before .before .before .before .any-bad .ensures) ∙ c .before .before .before .before .before .before .before .if2 .left) (c .before .before .before .before .sort .ensures)
+returns-3 c = order-decides _ _ _ _ (sym (c .before .before .before .before .before .before .before .before .before .before .bad-header .ensures) ∙ c .before .before .before .before .before .before .before .before .before .if1 .left) (sym (c .before .before .before .before .before .before .before .before .any-bad .ensures) ∙ c .before .before .before .before .before .before .before .if2 .left) (c .before .before .before .before .sort .ensures)
 
 pub check-spec : {M : Type 1} → statement M
 check-spec =

@@ -3,24 +3,18 @@ use Rattle.circuit.specs.Words.{limit}
 use borrow.Author.Needs.{needs}
 use Rattle.circuit.proofs.check.limit_of.Statement.{statement}
 use Rattle.circuit.proofs.check.limit_of.Tie as tie
-use Rattle.circuit.proofs.check.limit_of.Reads as reads
-use Rattle.circuit.proofs.check.limit_of.Lts as lts
 
--- src/check.rt:30:9
 returns : tie.Need-returns
 unfolding limit
 returns c = omega arith
 
--- src/check.rt:32:19
 sub-places : tie.Need-sub-places
 sub-places c = search needs
 
--- src/check.rt:34:9
 returns-2 : tie.Need-returns-2
 unfolding limit
 returns-2 c = omega arith
 
--- src/check.rt:26:1
 returns-3 : tie.Need-returns-3
 unfolding limit
 returns-3 c = omega arith

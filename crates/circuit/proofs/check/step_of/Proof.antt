@@ -3,46 +3,34 @@ use Rattle.circuit.specs.Walk.{stepOf}
 use borrow.Author.Needs.{needs}
 use Rattle.circuit.proofs.check.step_of.Statement.{statement}
 use Rattle.circuit.proofs.check.step_of.Tie as tie
-use Rattle.circuit.proofs.check.step_of.Reads as reads
-use Rattle.circuit.proofs.check.step_of.Lts as lts
 
--- src/check.rt:185:32
 enum-told : tie.Need-enum-told
 enum-told c = search needs
 
--- src/check.rt:186:37
 enum-told-2 : tie.Need-enum-told-2
 enum-told-2 c = search needs
 
--- src/check.rt:187:37
 enum-told-3 : tie.Need-enum-told-3
 enum-told-3 c = search needs
 
--- src/check.rt:188:34
 enum-known-e : tie.Need-enum-known-e
 enum-known-e c = search needs
 
--- src/check.rt:189:33
 enum-told-4 : tie.Need-enum-told-4
 enum-told-4 c = search needs
 
--- src/check.rt:181:1
 returns : tie.Need-returns
 returns c = search needs
 
--- src/check.rt:181:1
 returns-2 : tie.Need-returns-2
 returns-2 c = search needs
 
--- src/check.rt:181:1
 returns-3 : tie.Need-returns-3
 returns-3 c = search needs
 
--- src/check.rt:181:1
 returns-4 : tie.Need-returns-4
 returns-4 c = sym (ap stepOf (c .before .e .given .1))
 
--- src/check.rt:181:1
 returns-5 : tie.Need-returns-5
 returns-5 c = search needs
 

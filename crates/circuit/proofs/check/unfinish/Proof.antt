@@ -9,8 +9,6 @@ use Rattle.circuit.specs.Walk.{Unfinished}
 use Rattle.circuit.proofs.Marks.{fill-next}
 use Rattle.circuit.proofs.check.unfinish.Statement.{statement}
 use Rattle.circuit.proofs.check.unfinish.Tie as tie
-use Rattle.circuit.proofs.check.unfinish.Reads as reads
-use Rattle.circuit.proofs.check.unfinish.Lts as lts
 
 abbrev Inv-loop : tie.InvT-loop
 Inv-loop rank₀ n i₀ rank i = (i ≤ n) × ((length rank ≡ length rank₀) × ((k : ℕ) → k < i → at rank k ≡ n))
@@ -18,35 +16,27 @@ Inv-loop rank₀ n i₀ rank i = (i ≤ n) × ((length rank ≡ length rank₀) 
 abbrev μ-loop : tie.MeasureT-loop
 μ-loop rank₀ n i₀ rank i = n - i
 
--- src/check.rt:240:5
 loop-holds : tie.Need-loop-holds Inv-loop μ-loop
 loop-holds c = (omega arith, (refl, below-none _))
 
--- src/check.rt:242:9
 mul-rank : tie.Need-mul-rank Inv-loop μ-loop
 mul-rank c = search needs
 
--- src/check.rt:242:9
 slice-write-rank : tie.Need-slice-write-rank Inv-loop μ-loop
 slice-write-rank c = search needs
 
--- src/check.rt:243:9
 add-i : tie.Need-add-i Inv-loop μ-loop
 add-i c = search needs
 
--- src/check.rt:240:5
 loop-less : tie.Need-loop-less Inv-loop μ-loop
 loop-less c = search needs
 
--- src/check.rt:240:5
 loop-again : tie.Need-loop-again Inv-loop μ-loop
 loop-again c = (omega arith, (simp length-set (c .before .loop .inv .1 .0), fill-next (c .before .loop .rank) (c .before .loop .i) _ (omega arith) (c .before .loop .inv .1 .1)))
 
--- src/check.rt:235:1
 same-length : tie.Need-same-length Inv-loop μ-loop
 same-length c = search needs
 
--- src/check.rt:235:1
 returns : tie.Need-returns Inv-loop μ-loop
 unfolding Unfinished
 returns c = λ i l. c .before .loop .inv .1 .1 i (omega arith)

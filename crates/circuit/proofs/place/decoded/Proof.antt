@@ -2,50 +2,39 @@ use borrow.Author.Tests.{ne-eqb}
 use Rattle.circuit.specs.Words.{decode}
 use Rattle.circuit.proofs.place.decoded.Statement.{statement}
 use Rattle.circuit.proofs.place.decoded.Tie as tie
-use Rattle.circuit.proofs.place.decoded.Reads as reads
-use Rattle.circuit.proofs.place.decoded.Lts as lts
 
--- src/place.rt:11:1
 returns : tie.Need-returns
 unfolding decode
 returns c = rw (c .match .keys1)
 
--- src/place.rt:11:1
 returns-2 : tie.Need-returns-2
 unfolding decode
 returns-2 c = rw (c .match .keys2)
 
--- src/place.rt:11:1
 returns-3 : tie.Need-returns-3
 unfolding decode
 returns-3 c = rw (c .match .keys3)
 
--- src/place.rt:11:1
 returns-4 : tie.Need-returns-4
 unfolding decode
 returns-4 c = rw (c .match .keys4)
 
--- src/place.rt:11:1
 returns-5 : tie.Need-returns-5
 unfolding decode
 returns-5 c = rw (c .match .keys5)
 
--- src/place.rt:11:1
 returns-6 : tie.Need-returns-6
 unfolding decode
 returns-6 c = rw (c .match .keys6)
 
--- src/place.rt:11:1
 returns-7 : tie.Need-returns-7
 unfolding decode
 returns-7 c = rw (c .match .keys7)
 
--- src/place.rt:11:1
 returns-8 : tie.Need-returns-8
 unfolding decode
 returns-8 c = rw (c .match .keys8)
 
--- src/place.rt:11:1
 returns-9 : tie.Need-returns-9
 unfolding decode
 returns-9 c =

@@ -4,90 +4,67 @@ use lib.ListN.{length-set}
 use borrow.Author.Needs.{needs}
 use Rattle.circuit.proofs.place.fill.Statement.{statement}
 use Rattle.circuit.proofs.place.fill.Tie as tie
-use Rattle.circuit.proofs.place.fill.Reads as reads
-use Rattle.circuit.proofs.place.fill.Lts as lts
 
--- src/place.rt:118:18
 mul-at : tie.Need-mul-at
 mul-at c = search needs
 
--- src/place.rt:118:14
 add-at : tie.Need-add-at
 add-at c = search needs
 
--- src/place.rt:119:5
 mul-m : tie.Need-mul-m
 mul-m c = search needs
 
--- src/place.rt:119:5
 slice-write-m : tie.Need-slice-write-m
 slice-write-m c = search needs
 
--- src/place.rt:120:7
 add-m : tie.Need-add-m
 add-m c = search needs
 
--- src/place.rt:120:5
 mul-m-2 : tie.Need-mul-m-2
 mul-m-2 c = search needs
 
--- src/place.rt:120:5
 slice-write-m-2 : tie.Need-slice-write-m-2
 slice-write-m-2 c = simp length-set (omega arith)
 
--- src/place.rt:121:7
 add-m-2 : tie.Need-add-m-2
 add-m-2 c = search needs
 
--- src/place.rt:121:5
 mul-m-3 : tie.Need-mul-m-3
 mul-m-3 c = search needs
 
--- src/place.rt:121:5
 slice-write-m-3 : tie.Need-slice-write-m-3
 slice-write-m-3 c = simp length-set (omega arith)
 
--- src/place.rt:122:7
 add-m-3 : tie.Need-add-m-3
 add-m-3 c = search needs
 
--- src/place.rt:122:5
 mul-m-4 : tie.Need-mul-m-4
 mul-m-4 c = search needs
 
--- src/place.rt:122:5
 slice-write-m-4 : tie.Need-slice-write-m-4
 slice-write-m-4 c = simp length-set (omega arith)
 
--- src/place.rt:123:7
 add-m-4 : tie.Need-add-m-4
 add-m-4 c = search needs
 
--- src/place.rt:123:5
 mul-m-5 : tie.Need-mul-m-5
 mul-m-5 c = search needs
 
--- src/place.rt:123:5
 slice-write-m-5 : tie.Need-slice-write-m-5
 slice-write-m-5 c = simp length-set (omega arith)
 
--- src/place.rt:124:7
 add-m-5 : tie.Need-add-m-5
 add-m-5 c = search needs
 
--- src/place.rt:124:5
 mul-m-6 : tie.Need-mul-m-6
 mul-m-6 c = search needs
 
--- src/place.rt:124:5
 slice-write-m-6 : tie.Need-slice-write-m-6
 slice-write-m-6 c = simp length-set (omega arith)
 
--- src/place.rt:114:1
 same-length : tie.Need-same-length
 same-length c = search needs
 
--- src/place.rt:114:1
 returns : tie.Need-returns
 returns c = simp towards-suc
 

@@ -4,34 +4,25 @@ use Rattle.circuit.proofs.Places.{made-by}
 use borrow.Author.Needs.{needs}
 use Rattle.circuit.proofs.place.make.Statement.{statement}
 use Rattle.circuit.proofs.place.make.Tie as tie
-use Rattle.circuit.proofs.place.make.Reads as reads
-use Rattle.circuit.proofs.place.make.Lts as lts
-use Rattle.circuit.proofs.place.fill.Reads as fill-reads
-use Rattle.circuit.proofs.place.words_of.Reads as words-of-reads
 
--- src/place.rt:132:13
 slice-read-u : tie.Need-slice-read-u
 slice-read-u c =
     let f = place-fits (c .before .before .args .m .now) _ (c .before .before .pre) in
     let t = limit-top (c .before .before .args .m .now) in
     omega arith
 
--- src/place.rt:133:16
 words-of-requires : tie.Need-words-of-requires
 words-of-requires c κs = search needs
 
--- src/place.rt:133:5
 fill-requires : tie.Need-fill-requires
 fill-requires c κs = place-fits _ _ (c .before .before .before .before .pre)
 
--- src/place.rt:134:12
 add-m : tie.Need-add-m
 add-m c =
     let f = place-fits (c .before .before .before .before .before .before .before .args .m .now) _ (c .before .before .before .before .before .before .before .pre) in
     let t = limit-top (c .before .before .before .before .before .before .before .args .m .now) in
     omega arith
 
--- src/place.rt:134:5
 slice-write-m : tie.Need-slice-write-m
 slice-write-m c =
     let f = place-fits (c .before .before .before .before .before .before .before .args .m .now) _ (c .before .before .before .before .before .before .before .pre) in
@@ -39,11 +30,9 @@ slice-write-m c =
     let k = c .before .before .fill .kept .1 .0 in
     omega arith
 
--- src/place.rt:128:1
 same-length : tie.Need-same-length
 same-length c = search needs
 
--- src/place.rt:128:1
 returns : tie.Need-returns
 returns c = made-by _ _ _ _ (c .before .before .before .before .before .before .before .pre) (c .before .before .before .words-of .ensures) (c .before .before .fill .ensures)
 

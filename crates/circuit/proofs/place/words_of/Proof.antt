@@ -3,65 +3,47 @@ use Rattle.circuit.specs.Words.{encode}
 use borrow.Author.Needs.{needs}
 use Rattle.circuit.proofs.place.words_of.Statement.{statement}
 use Rattle.circuit.proofs.place.words_of.Tie as tie
-use Rattle.circuit.proofs.place.words_of.Reads as reads
-use Rattle.circuit.proofs.place.words_of.Lts as lts
-use Rattle.circuit.proofs.place.column_of.Reads as column-of-reads
-use Rattle.circuit.proofs.place.input_kind.Reads as input-kind-reads
-use Rattle.circuit.proofs.place.op_kind.Reads as op-kind-reads
 
--- src/place.rt:104:26
 enum-known-e : tie.Need-enum-known-e
 enum-known-e c = search needs
 
--- src/place.rt:105:31
 enum-known-e-2 : tie.Need-enum-known-e-2
 enum-known-e-2 c = search needs
 
--- src/place.rt:106:31
 enum-known-e-3 : tie.Need-enum-known-e-3
 enum-known-e-3 c = search needs
 
--- src/place.rt:107:31
 enum-known-e-4 : tie.Need-enum-known-e-4
 enum-known-e-4 c = search needs
 
--- src/place.rt:107:61
 op-kind-requires : tie.Need-op-kind-requires
 op-kind-requires c κs = search needs
 
--- src/place.rt:108:27
 enum-known-e-5 : tie.Need-enum-known-e-5
 enum-known-e-5 c = search needs
 
--- src/place.rt:108:51
 input-kind-requires : tie.Need-input-kind-requires
 input-kind-requires c κs = search needs
 
--- src/place.rt:108:73
 column-of-requires : tie.Need-column-of-requires
 column-of-requires c κs = search needs
 
--- src/place.rt:100:1
 returns : tie.Need-returns
 unfolding encode
 returns c = sym (ap encode (c .before .e .given .1))
 
--- src/place.rt:100:1
 returns-2 : tie.Need-returns-2
 unfolding encode
 returns-2 c = sym (ap encode (c .before .e2 .given .1))
 
--- src/place.rt:100:1
 returns-3 : tie.Need-returns-3
 unfolding encode
 returns-3 c = sym (ap encode (c .before .e3 .given .1))
 
--- src/place.rt:100:1
 returns-4 : tie.Need-returns-4
 unfolding encode
 returns-4 c = rw (c .before .before .e4 .given .1, c .op-kind .ensures)
 
--- src/place.rt:100:1
 returns-5 : tie.Need-returns-5
 unfolding encode
 returns-5 c = rw (c .before .before .before .e5 .given .1, c .column-of .ensures, c .before .input-kind .ensures)

@@ -1,0 +1,26 @@
+use mathlib.Core.Path.{sym}
+use lib.ListN.{List·getD-eq-default}
+use borrow.Author.Needs.{needs}
+use Rattle.classes.proofs.numbers.number_at.Statement.{statement}
+use Rattle.classes.proofs.numbers.number_at.Tie as tie
+use Rattle.classes.proofs.numbers.number_at.Reads as reads
+use Rattle.classes.proofs.numbers.number_at.Lts as lts
+
+-- src/numbers.rt:24:16
+mul-result : tie.Need-mul-result
+mul-result c = search needs
+
+-- src/numbers.rt:24:16
+shared-slice-read-result : tie.Need-shared-slice-read-result
+shared-slice-read-result c = search needs
+
+-- src/numbers.rt:24:9
+returns : tie.Need-returns
+returns c = search needs
+
+-- src/numbers.rt:19:1
+returns-2 : tie.Need-returns-2
+returns-2 c = sym (List·getD-eq-default (c .before .args .numbers .now) 0 (c .if1 .left))
+
+pub number-at-spec : {M : Type 1} → statement M
+number-at-spec = tie.close (tie.spec mul-result shared-slice-read-result returns returns-2)

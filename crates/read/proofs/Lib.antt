@@ -1,0 +1,8 @@
+-- What the proofs of several functions, and the layers above, use.
+pub mod Lists
+pub mod Tables
+pub mod Degrees
+pub mod Bases
+pub mod Values
+pub mod Highest
+pub mod Lent

@@ -1,0 +1,25 @@
+-- Base tests in a table, as bits: 1 yes, 0 no. Assumes nothing.
+use Prim.Native.Nat.{ℕ, min}
+use mathlib.Core.List.{List}
+use Rattle.circuit.specs.declared.node.Op.{Op}
+use Rattle.circuit.specs.declared.node.Expression.{Expression}
+use Rattle.circuit.specs.Lists.{bit}
+use Rattle.circuit.specs.Words.{expressionAt}
+use Rattle.circuit.specs.Tree.{tree}
+use Rattle.read.specs.Readings.{leafIsBase, isBase}
+use Rattle.read.specs.Tables.{unknown, leafEntry}
+
+-- the base test of node i
+unfoldable pub baseBit : List ℕ → ℕ → ℕ
+baseBit m i = bit (isBase (tree m i))
+
+-- what a table of base tests starts with
+unfoldable pub baseEntry : Expression → ℕ
+baseEntry e = leafEntry (λ a. bit (leafIsBase a)) unknown e
+
+abbrev pub baseStart : List ℕ → ℕ → ℕ
+baseStart m i = baseEntry (expressionAt m i)
+
+-- of an operation: both operands pass
+abbrev pub baseJoin : Op → ℕ → ℕ → ℕ
+baseJoin o a b = min a b
