@@ -111,7 +111,7 @@ walks-in m [] r i h k = absurd h
 walks-in m (x ∷ rs) r i (inl e) k = in-left i (walk (tree m x)) (walks m rs) (rw e at k)
 walks-in m (x ∷ rs) r i (inr h) k = in-right i (walk (tree m x)) (walks m rs) (walks-in m rs r i h k)
 
-in-walks : (m : List ℕ) (rs : List ℕ) (i : ℕ) → In i (walks m rs) → (r : ℕ) × In r rs × In i (walk (tree m r))
+pub in-walks : (m : List ℕ) (rs : List ℕ) (i : ℕ) → In i (walks m rs) → (r : ℕ) × In r rs × In i (walk (tree m r))
 unfolding walks
 in-walks m [] i h = absurd h
 in-walks m (x ∷ rs) i h = go (in-cases i (walk (tree m x)) (walks m rs) h) (λ k. in-walks m rs i k)

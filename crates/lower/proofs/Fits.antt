@@ -44,27 +44,27 @@ written-length : (a l : List ℕ) → length a ≤ length l → length (written 
 unfolding written
 written-length a l h = omega (arith, length-append a (drop (length a) l), length-drop (length a) l)
 
-record Fitted (m rs : List ℕ) (x : Lowering) : Type 0 where
-  nodes : used (x .circuit) ≤ limit m
-  circuit : length (x .circuit) ≡ length m
-  roots : length (x .roots) ≡ length rs
-  main : length (x .main) ≤ M m rs
-  aux : length (x .aux) ≤ M m rs
-  valid : notCircuit (x .circuit) ≡ false
+pub record Fitted (m rs : List ℕ) (x : Lowering) : Type 0 where
+  pub nodes : used (x .circuit) ≤ limit m
+  pub circuit : length (x .circuit) ≡ length m
+  pub roots : length (x .roots) ≡ length rs
+  pub main : length (x .main) ≤ M m rs
+  pub aux : length (x .aux) ≤ M m rs
+  pub valid : notCircuit (x .circuit) ≡ false
 
 limit-same : (m m′ : List ℕ) → length m′ ≡ length m → limit m′ ≡ limit m
 unfolding limit
 limit-same m m′ h = rw h
 
 -- the columns up to M more are in bounds
-columns-room : (mc ac : ℕ) (m roots : List ℕ) → badColumns mc ac m roots ≡ false → (mc + M m roots ≤ 65536) × (ac + M m roots ≤ 65536)
+pub columns-room : (mc ac : ℕ) (m roots : List ℕ) → badColumns mc ac m roots ≡ false → (mc + M m roots ≤ 65536) × (ac + M m roots ≤ 65536)
 unfolding badColumns
 columns-room mc ac m roots h =
     let (a, b) = or-false (any (λ i. inputAtOrAbove mc ac (expressionAt m i)) (upTo (used m))) (ltb 65536 (mc + M m roots) || ltb 65536 (ac + M m roots)) h in
     let (c, d) = or-false (ltb 65536 (mc + M m roots)) (ltb 65536 (ac + M m roots)) b in
     (ltb-false 65536 (mc + M m roots) c, ltb-false 65536 (ac + M m roots) d)
 
-fits-some : (T mc ac : ℕ) (m roots : List ℕ) → 2 ≤ T → State mc ac (start m roots) → tooHigh T m roots ≡ true → fullLowering m roots ≡ false → badColumns mc ac m roots ≡ false → Proper m → Fitted m roots (lowered T mc ac m roots)
+pub fits-some : (T mc ac : ℕ) (m roots : List ℕ) → 2 ≤ T → State mc ac (start m roots) → tooHigh T m roots ≡ true → fullLowering m roots ≡ false → badColumns mc ac m roots ≡ false → Proper m → Fitted m roots (lowered T mc ac m roots)
 unfolding lowered fullLowering
 fits-some T mc ac m roots two begin high full columns proper =
     go (loop (M m roots) T mc ac (start m roots)) ((loop-ran T mc ac two (M m roots) (start m roots) begin) .0) ((demand-some T mc ac m roots two begin high) .fewer high)

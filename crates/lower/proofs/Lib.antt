@@ -28,3 +28,8 @@ pub mod Renames
 pub mod Selects
 pub mod Seen
 pub mod Readings
+pub mod Falls
+pub mod Surveys
+pub mod Refuses
+pub mod Along
+pub mod Begins

@@ -28,7 +28,7 @@ use Rattle.lower.proofs.Seen.{ltb-same}
 
 -- tests that agree on a list
 
-any-same : (p q : ℕ → Bool) (xs : List ℕ) → ((i : ℕ) → In i xs → p i ≡ q i) → any p xs ≡ any q xs
+pub any-same : (p q : ℕ → Bool) (xs : List ℕ) → ((i : ℕ) → In i xs → p i ≡ q i) → any p xs ≡ any q xs
 unfolding any
 any-same p q [] h = refl
 any-same p q (x ∷ xs) h = rw (h x (inl refl), any-same p q xs (λ i k. h i (inr k)))
@@ -66,7 +66,7 @@ positive : (m roots counts : List ℕ) → PathCounts m roots counts → (i : �
 positive m roots counts c i l = let e = c .told i l in ltb-same 0 (at counts i) 0 (paths m roots i) (λ h. omega arith) (λ h. omega arith)
 
 -- a count that is not above the bound is told exactly
-exact : (m roots counts : List ℕ) → PathCounts m roots counts → (i : ℕ) → i < used m → ltb 4294967295 (at counts i) ≡ ltb 4294967295 (paths m roots i)
+pub exact : (m roots counts : List ℕ) → PathCounts m roots counts → (i : ℕ) → i < used m → ltb 4294967295 (at counts i) ≡ ltb 4294967295 (paths m roots i)
 exact m roots counts c i l = let e = c .told i l in ltb-same 4294967295 (at counts i) 4294967295 (paths m roots i) (λ h. omega arith) (λ h. omega arith)
 
 -- a loose node below a root
@@ -79,7 +79,7 @@ loose-is m roots counts valid ids c =
 
 module _ (m degrees : List ℕ) (d⁺ : Degrees m degrees) where
   -- a degree below what is told apart, asked for of any node
-  above-small : (d i : ℕ) → i < used m → d < 2147483648 → aboveIn degrees d i ≡ above d m i
+  pub above-small : (d i : ℕ) → i < used m → d < 2147483648 → aboveIn degrees d i ≡ above d m i
   unfolding above
   above-small d i l s = let e = d⁺ .told i l in ltb-same (suc d) (at degrees i) (suc d) (degree⁺ (tree m i)) (λ h. omega arith) (λ h. omega arith)
 

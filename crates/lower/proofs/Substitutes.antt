@@ -49,20 +49,32 @@ module _ (m : List ℕ) (sound : Sound m) (s : ℕ) (u : Shape) (large : 3 ≤ d
       go (some i) h = absurd (fresh i (found m sound (Input y) i h))
       go none h = refl
 
-  one : List ℕ
+  pub one : List ℕ
   one = made m (Input y)
 
-  two : List ℕ
+  pub one-is : one ≡ made m (Input y)
+  unfolding one
+  one-is = refl
+
+  pub two : List ℕ
   two = redirected one s (used m)
+
+  pub two-is : two ≡ redirected one s (used m)
+  unfolding two
+  two-is = refl
 
   pub three : Built
   three = subtracted two (used m) s
 
-  one-sound : Sound one
+  pub three-is : three ≡ subtracted two (used m) s
+  unfolding three
+  three-is = refl
+
+  pub one-sound : Sound one
   unfolding one
   one-sound = made-sound m sound (Input y) tt
 
-  one-used : used one ≡ suc (used m)
+  pub one-used : used one ≡ suc (used m)
   unfolding one
   one-used = made-used m (Input y) (sound .room)
 
@@ -74,7 +86,7 @@ module _ (m : List ℕ) (sound : Sound m) (s : ℕ) (u : Shape) (large : 3 ≤ d
   unfolding one
   one-new = look-made-new m (Input y) (sound .room)
 
-  s-old : s < used m
+  pub s-old : s < used m
   s-old = let (e, p) = unf-some (look m) u s at-s in look-lt m s e p
 
   s-used : s < used one
@@ -90,7 +102,7 @@ module _ (m : List ℕ) (sound : Sound m) (s : ℕ) (u : Shape) (large : 3 ≤ d
         new = let (e, p, k) = redirected-kept s (used m) one (one-sound .room) s-used (used m) (leafE (inputLeaf y)) one-new in p ∙ ap some k;
       }
 
-  two-used : used two ≡ suc (used m)
+  pub two-used : used two ≡ suc (used m)
   unfolding two
   two-used = redirected-used s (used m) one (one-sound .room) s-used ∙ one-used
 
@@ -98,7 +110,7 @@ module _ (m : List ℕ) (sound : Sound m) (s : ℕ) (u : Shape) (large : 3 ≤ d
   unfolding two
   two-room = redirected-room s (used m) one (one-sound .room) s-used
 
-  two-sound : Sound two
+  pub two-sound : Sound two
   two-sound = record { room = two-room; whole = λ i h. go i (omega (arith, two-used)) (ℕ-discrete i (used m)) }
     where
       go : (i : ℕ) → i < suc (used m) → Dec (i ≡ used m) → (t : Shape) × Unf (look two) t i
@@ -191,11 +203,11 @@ module _ (m : List ℕ) (sound : Sound m) (s : ℕ) (u : Shape) (large : 3 ≤ d
   pub nodes-grow : used m ≤ used (three .circuit)
   nodes-grow = omega (arith, grew-three .more, two-used)
 
-  one-proper : column y ≤ 65535 → isNext y ≡ false → Proper m → Proper one
+  pub one-proper : column y ≤ 65535 → isNext y ≡ false → Proper m → Proper one
   unfolding one
   one-proper c q h = made-proper m (sound .room) (Input y) (λ x e. let z : inputLeaf y ≡ x = cc in rw (← z, le-ltb 65535 (column y) c, q)) h
 
-  two-proper : Proper one → Proper two
+  pub two-proper : Proper one → Proper two
   unfolding two
   two-proper h = redirected-proper s (used m) one (one-sound .room) s-used h
 
@@ -203,11 +215,11 @@ module _ (m : List ℕ) (sound : Sound m) (s : ℕ) (u : Shape) (large : 3 ≤ d
   pub three-proper : column y ≤ 65535 → isNext y ≡ false → Proper m → Proper (three .circuit)
   three-proper c q h = grew-three .proper (two-proper (one-proper c q h))
 
-  two-length : length two ≡ length one
+  pub two-length : length two ≡ length one
   unfolding two
   two-length = redirected-length s (used m) one (one-sound .room) s-used
 
-  one-length : 2 + 6 * suc (used m) ≤ length m → length one ≡ length m
+  pub one-length : 2 + 6 * suc (used m) ≤ length m → length one ≡ length m
   unfolding one
   one-length h = made-length m (Input y) (sound .room) h
 

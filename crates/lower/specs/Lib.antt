@@ -7,3 +7,5 @@ pub mod Demand
 pub mod Computing
 pub mod Examples
 pub mod Tables
+pub mod Survey
+pub mod Refusing

@@ -8,37 +8,16 @@ use native.Mathlib.Omega.{arith}
 use native.Mathlib.Numerals.{add-one}
 use lib.ListN.{length, set, take, length-append}
 use lib.Seq.{take-suc, take-length, getD-set-same, getD-set-other}
-use Rattle.circuit.specs.declared.node.Expression.{Expression}
-use Rattle.circuit.specs.declared.node.Expression.the-variants.{Base, Extension, Challenge, Operation, Input}
-use Rattle.circuit.specs.declared.check.Step.{Step}
 use Rattle.circuit.specs.declared.check.Step.the-variants.{Stay, Two}
-use Rattle.circuit.specs.Words.{used, expressionAt}
+use Rattle.circuit.specs.Words.{used}
 use Rattle.circuit.specs.NotCircuit.{notCircuit}
-use Rattle.circuit.specs.Tree.{Tree, treeOver, tree}
-use Rattle.circuit.specs.Walk.{stepOf}
+use Rattle.circuit.specs.Tree.{tree}
 use Rattle.circuit.specs.Rank.{at, Sorted}
-use Rattle.circuit.proofs.Trees.{tree-fixed}
 use Rattle.circuit.proofs.Tests.{last-or}
 use Rattle.paths.specs.Paths.{walk, walks}
 use Rattle.paths.specs.Walking.{Sizes}
-use Rattle.paths.proofs.Walks.{step, step-below}
+use Rattle.paths.proofs.Walks.{step, step-below, walk-step}
 use Rattle.paths.proofs.Uses.{ranks-fall}
-
--- a node's walk, from its operands'
-abbrev pub walkOver : ℕ → Step → (ℕ → List ℕ) → List ℕ
-walkOver i Stay f = i ∷ []
-walkOver i (Two l r) f = f l ++ (i ∷ f r)
-
-over-walk : (i : ℕ) (e : Expression) (f : ℕ → Tree) → walk (treeOver i e f) ≡ walkOver i (stepOf e) (λ j. walk (f j))
-unfolding walk
-over-walk i (Base w) f = refl
-over-walk i (Extension w) f = refl
-over-walk i (Challenge w) f = refl
-over-walk i (Operation o l r) f = refl
-over-walk i (Input w) f = refl
-
-pub walk-step : (m : List ℕ) → notCircuit m ≡ false → (i : ℕ) → i < used m → walk (tree m i) ≡ walkOver i (step m i) (λ j. walk (tree m j))
-walk-step m v i l = ap walk (tree-fixed m v i l) ∙ over-walk i (expressionAt m i) (tree m)
 
 -- the size of a tree: how long its walk is
 abbrev pub size : List ℕ → ℕ → ℕ

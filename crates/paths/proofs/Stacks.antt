@@ -23,9 +23,9 @@ use Rattle.circuit.proofs.Trees.{tree-fixed}
 use Rattle.circuit.proofs.Valid.{valid-ends}
 use Rattle.paths.specs.Paths.{walk, walks}
 use Rattle.paths.specs.Walking.{height, rightWalk, pending, Level, Stacked, Descending, Descended, Walking, Walked, WalkingAll}
-use Rattle.paths.proofs.Walks.{step, step-below, roots-below}
+use Rattle.paths.proofs.Walks.{step, step-below, walk-step, roots-below}
 use Rattle.paths.proofs.Written.{sets-append}
-use Rattle.paths.proofs.Lengths.{walk-step, size}
+use Rattle.paths.proofs.Lengths.{size}
 
 -- heights
 

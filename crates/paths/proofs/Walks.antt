@@ -53,13 +53,23 @@ step-two (Challenge w) l r h = let z : _≡_ {A = ℕ} 0 1 = cc in absurd (omega
 step-two (Operation o a b) l r h = let p : a ≡ l = cc in let q : b ≡ r = cc in (o, rw (p, q))
 step-two (Input w) l r h = let z : _≡_ {A = ℕ} 0 1 = cc in absurd (omega arith)
 
-over-count : (i : ℕ) (e : Expression) (f : ℕ → Tree) (x : ℕ) → count x (walk (treeOver i e f)) ≡ hit x i 1 + both (stepOf e) (λ j. count x (walk (f j)))
-unfolding walk count
-over-count i (Base w) f x = refl
-over-count i (Extension w) f x = refl
-over-count i (Challenge w) f x = refl
-over-count i (Operation o l r) f x = rw (count-append x (walk (f l)) (i ∷ walk (f r))) (omega arith)
-over-count i (Input w) f x = refl
+-- a node's walk, from its operands'
+abbrev pub walkOver : ℕ → Step → (ℕ → List ℕ) → List ℕ
+walkOver i Stay f = i ∷ []
+walkOver i (Two l r) f = f l ++ (i ∷ f r)
+
+over-walk : (i : ℕ) (e : Expression) (f : ℕ → Tree) → walk (treeOver i e f) ≡ walkOver i (stepOf e) (λ j. walk (f j))
+unfolding walk
+over-walk i (Base w) f = refl
+over-walk i (Extension w) f = refl
+over-walk i (Challenge w) f = refl
+over-walk i (Operation o l r) f = refl
+over-walk i (Input w) f = refl
+
+walk-count : (i : ℕ) (s : Step) (f : ℕ → List ℕ) (x : ℕ) → count x (walkOver i s f) ≡ hit x i 1 + both s (λ j. count x (f j))
+unfolding count
+walk-count i Stay f x = refl
+walk-count i (Two l r) f x = rw (count-append x (f l) (i ∷ f r)) (omega arith)
 
 -- the paths from node p to node x
 abbrev pub from : List ℕ → ℕ → ℕ → ℕ
@@ -113,9 +123,12 @@ unfolding badId
 ids-bad m ids k l h = one-passes (leb (used m)) ids k l (le-leb (used m) (at ids k) h)
 
 module _ (m : List ℕ) (valid : notCircuit m ≡ false) where
+  pub walk-step : (p : ℕ) → p < used m → walk (tree m p) ≡ walkOver p (step m p) (λ j. walk (tree m j))
+  walk-step p l = ap walk (tree-fixed m valid p l) ∙ over-walk p (expressionAt m p) (tree m)
+
   -- the paths from a node: itself, and those from its operands
   pub from-step : (p : ℕ) → p < used m → (x : ℕ) → from m p x ≡ hit x p 1 + both (step m p) (λ j. from m j x)
-  from-step p l x = ap (λ (t : Tree). count x (walk t)) (tree-fixed m valid p l) ∙ over-count p (expressionAt m p) (tree m) x
+  from-step p l x = ap (count x) (walk-step p l) ∙ walk-count p (step m p) (λ j. walk (tree m j)) x
 
   -- operands are nodes
   pub step-below : (p : ℕ) → p < used m → (l r : ℕ) → step m p ≡ Two l r → (l < used m) × (r < used m)

@@ -1,12 +1,12 @@
 -- Base tests as bits. Assumes nothing.
-use Prim.Native.Nat.{ℕ, _<_, min}
+use Prim.Native.Nat.{ℕ, min}
 use mathlib.Core.Path.{_≡_, refl}
 use mathlib.Core.Bool.{Bool, true, false, _&&_}
 use mathlib.Core.List.{List}
 use lib.Dec.{eqb}
 use Rattle.circuit.specs.Lists.{bit}
-use Rattle.circuit.specs.Words.{used, expressionAt}
-use Rattle.circuit.specs.Tree.{Leaf, Tree, leaf, branch, tree}
+use Rattle.circuit.specs.Words.{used}
+use Rattle.circuit.specs.Tree.{tree}
 use Rattle.circuit.specs.NotCircuit.{notCircuit}
 use Rattle.read.specs.Readings.{leafIsBase, isBase}
 use Rattle.read.specs.Tables.{unknown, Filled, Right, itself}

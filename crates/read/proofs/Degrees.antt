@@ -1,5 +1,5 @@
 -- Degrees under the cap: what is not told apart does not matter to a sum or a product. Assumes nothing.
-use Prim.Native.Nat.{ℕ, zero, suc, _+_, _-_, _<_, _≤_, min, max}
+use Prim.Native.Nat.{ℕ, zero, suc, _+_, _-_, _≤_, min}
 use mathlib.Core.Path.{_≡_, refl, sym, ap, _∙_}
 use mathlib.Core.Logic.{_≢_}
 use mathlib.Core.Bool.{Bool, true, false}
@@ -10,12 +10,10 @@ use lib.Dec.{eqb}
 use Rattle.field.specs.Extension.{lift, sameTriple}
 use Rattle.circuit.specs.declared.node.Op.{Op}
 use Rattle.circuit.specs.declared.node.Op.the-variants.{Add, Multiply}
-use Rattle.circuit.specs.declared.node.Expression.{Expression}
-use Rattle.circuit.specs.declared.node.Expression.the-variants.{Operation}
 use Rattle.circuit.specs.NotCircuit.{notCircuit}
 use Rattle.circuit.specs.Words.{used, expressionAt}
 use Rattle.circuit.specs.Lists.{if_then_else_}
-use Rattle.circuit.specs.Tree.{Leaf, baseLeaf, extensionLeaf, challengeLeaf, inputLeaf, Tree, leaf, branch}
+use Rattle.circuit.specs.Tree.{Leaf, baseLeaf, extensionLeaf, challengeLeaf, inputLeaf, Tree, branch}
 use Rattle.read.specs.Readings.{leafDegree⁺, productDegree⁺, degree⁺, signed}
 use Rattle.read.specs.Tables.{unknown, Filled, Right, itself}
 use Rattle.read.specs.Degrees.{top, degreeTo, degreeEntry, degreeOver, degreeJoin}

@@ -1,23 +1,22 @@
 -- The degrees below a list of roots: which is over the bound, and which is the highest. Assumes nothing.
-use Prim.Native.Nat.{ℕ, zero, suc, _+_, _-_, _<_, _≤_, min, max}
+use Prim.Native.Nat.{ℕ, suc, _-_, _<_, _≤_, min, max}
 use mathlib.Core.Path.{_≡_, refl, sym, ap, _∙_}
-use mathlib.Core.Logic.{_⊎_, inl, inr, ⊎-elim, _≢_}
-use mathlib.Core.Bool.{Bool, true, false, _&&_}
+use mathlib.Core.Logic.{_⊎_, inl, inr, ⊎-elim}
+use mathlib.Core.Bool.{Bool, false, _&&_}
 use mathlib.Core.List.{List, [], _∷_, map, foldr}
 use native.Mathlib.Omega.{arith}
 use lib.IntN.{pos}
 use lib.Dec.{ltb, eqb}
 use lib.ListN.{length, getD, drop}
 use lib.Seq.{drop-cons, drop-length}
-use borrow.Author.Tests.{lt-ltb, le-ltb, ltb-true, ltb-false, eq-eqb, ne-eqb}
+use borrow.Author.Tests.{lt-ltb, le-ltb, eq-eqb, ne-eqb}
 use Rattle.circuit.specs.Lists.{In, any, upTo}
 use Rattle.circuit.specs.Words.{used}
 use Rattle.circuit.specs.Tree.{tree}
 use Rattle.circuit.specs.NotCircuit.{notCircuit, badId}
-use Rattle.circuit.specs.Outcomes.{Outcome}
 use Rattle.circuit.specs.Calls.{reading}
 use Rattle.circuit.specs.Rank.{at}
-use Rattle.circuit.proofs.Tests.{below-or, any-one}
+use Rattle.circuit.proofs.Tests.{below-or}
 use Rattle.circuit.proofs.Lists.{clash}
 use Rattle.paths.specs.Paths.{walks, paths}
 use Rattle.paths.specs.Counting.{PathCounts}

@@ -1,25 +1,21 @@
 -- The lent tables of an evaluation: what makes them bad. Assumes nothing.
-use Prim.Native.Nat.{ℕ, _+_, _*_, _<_, _≤_}
-use mathlib.Core.Path.{_≡_, refl, sym, ap, _∙_}
+use Prim.Native.Nat.{ℕ, _≤_}
+use mathlib.Core.Path.{_≡_, refl, _∙_}
 use mathlib.Core.Logic.{⊎-elim}
-use mathlib.Core.Bool.{Bool, true, false, _&&_, _||_, not}
-use mathlib.Core.List.{List, [], _∷_, _++_}
+use mathlib.Core.Bool.{true, false, _||_, not}
+use mathlib.Core.List.{List, [], _∷_}
 use native.Mathlib.Omega.{arith}
-use lib.Dec.{ltb, leb, eqb}
+use lib.Dec.{ltb, eqb}
 use lib.ListN.{length}
 use borrow.Author.Tests.{eqb-true, not-false}
-use Rattle.circuit.specs.declared.node.Position.{Position}
 use Rattle.circuit.specs.declared.node.Position.the-variants.{Main, Aux, NextMain, NextAux}
 use Rattle.circuit.specs.declared.node.Expression.{Expression}
 use Rattle.circuit.specs.declared.node.Expression.the-variants.{Base, Extension, Challenge, Operation, Input}
 use Rattle.circuit.specs.Lists.{any, upTo}
 use Rattle.circuit.specs.Words.{rowKind, used, limit, expressionAt}
-use Rattle.circuit.specs.Tree.{tree}
 use Rattle.circuit.specs.NotCircuit.{badHeader, notCircuit, badId}
-use Rattle.circuit.specs.Rank.{at}
 use Rattle.circuit.proofs.Tests.{neither, either}
 use Rattle.circuit.proofs.Valid.{valid-header}
-use Rattle.paths.specs.Paths.{walk, walks}
 use Rattle.paths.specs.Counting.{PathCounts}
 use Rattle.paths.proofs.Below.{walks-one}
 use Rattle.read.specs.Refusals.{columnsLent, readsBeyond, badTable}

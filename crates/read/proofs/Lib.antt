@@ -6,3 +6,5 @@ pub mod Bases
 pub mod Values
 pub mod Highest
 pub mod Lent
+pub mod Seen
+pub mod Unique

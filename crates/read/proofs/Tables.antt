@@ -1,5 +1,5 @@
 -- The laws of the tables in which the recursions remember answers: one node asked for, and its operands. Assumes nothing.
-use Prim.Native.Nat.{ℕ, _+_, _*_, _<_, _≤_}
+use Prim.Native.Nat.{ℕ, _+_, _<_, _≤_}
 use mathlib.Core.Path.{_≡_, refl, sym, ap, _∙_}
 use mathlib.Core.Logic.{_≢_, ⊎-elim}
 use mathlib.Core.Bool.{Bool, true, false}
@@ -21,7 +21,6 @@ use Rattle.circuit.specs.Rank.{at, Sorted}
 use Rattle.circuit.proofs.Tests.{same-or}
 use Rattle.circuit.proofs.Valid.{valid-fits, valid-operands}
 use Rattle.circuit.proofs.Trees.{tree-fixed}
-use Rattle.read.specs.declared.step.Step.{Step}
 use Rattle.read.specs.declared.step.Step.the-variants.{Stay, Two}
 use Rattle.read.specs.Tables.{unknown, operandsOf, stepAt, Ranked, leafEntry, Filled, Right, Told, Roomy, Asked, AllAsked, itself}
 

@@ -12,8 +12,7 @@ use Rattle.field.specs.Extension.{lift}
 use Rattle.circuit.specs.declared.node.Position.{Position}
 use Rattle.circuit.specs.declared.node.Position.the-variants.{Main, Aux, NextMain, NextAux}
 use Rattle.circuit.specs.declared.node.Op.{Op}
-use Rattle.circuit.specs.Words.{used, expressionAt, apply}
-use Rattle.circuit.specs.Tree.{Leaf, Tree, leaf, branch}
+use Rattle.circuit.specs.Words.{used, apply}
 use Rattle.circuit.specs.NotCircuit.{notCircuit}
 use Rattle.read.specs.declared.step.Step.the-variants.{Two}
 use Rattle.read.specs.Readings.{Assignment, inputValue, leafValue, value}

@@ -9,5 +9,6 @@ pub mod Degrees
 pub mod Bases
 pub mod Values
 pub mod Lent
+pub mod Marks
 pub mod Computing
 pub mod Examples

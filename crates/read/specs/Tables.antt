@@ -5,7 +5,6 @@ use mathlib.Core.Bool.{false}
 use mathlib.Core.List.{List}
 use lib.ListN.{length}
 use lib.Dec.{eqb}
-use Rattle.circuit.specs.declared.node.Position.{Position}
 use Rattle.circuit.specs.declared.node.Op.{Op}
 use Rattle.circuit.specs.declared.node.Expression.{Expression}
 use Rattle.circuit.specs.declared.node.Expression.the-variants.{Base, Extension, Challenge, Operation, Input}

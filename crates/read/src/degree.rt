@@ -1,6 +1,5 @@
 // Degrees, as document 01 has them: add the larger, multiply the sum, or -1 if either is -1. Inside they are one higher, so that -1 is 0.
 use crate::answer::Degree;
-use crate::roots::bad_id;
 use crate::step::Step;
 use crate::step::UNKNOWN;
 use crate::step::step_at;
@@ -13,6 +12,7 @@ use circuit::refusal::DEGREE;
 use circuit::refusal::NOT_CIRCUIT;
 use field::extension;
 use paths::counting::count_paths;
+use paths::ids::bad_id;
 ghost use mathlib.Core.Path.{_≡_};
 ghost use mathlib.Core.Bool.{_&&_};
 ghost use mathlib.Core.List.{map, foldr};

@@ -3,7 +3,7 @@ pub mod answer;
 pub mod base_test;
 pub mod constants;
 pub mod degree;
-pub mod roots;
 pub mod step;
 pub mod table;
 pub mod value;
+pub mod visible;

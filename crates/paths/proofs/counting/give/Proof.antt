@@ -28,7 +28,7 @@ add-at-requires c κs =
     let t = valid-top _ (v .valid) in
     let r = v .room in
     let s = v .small in
-    let b = step-below _ (v .valid) _ (v .here) _ _ (sym (c .before .before .before .before .step-at .ensures) ∙ c .before .before .s .given .1) .0 in
+    let (b, d) = step-below _ (v .valid) _ (v .here) _ _ (sym (c .before .before .before .before .step-at .ensures) ∙ c .before .before .s .given .1) in
     (omega arith, omega arith)
 
 add-at-requires-2 : tie.Need-add-at-requires-2
@@ -37,7 +37,7 @@ add-at-requires-2 c κs =
     let t = valid-top _ (v .valid) in
     let r = v .room in
     let s = v .small in
-    let b = step-below _ (v .valid) _ (v .here) _ _ (sym (c .before .before .before .before .before .before .before .before .step-at .ensures) ∙ c .before .before .before .before .before .before .s .given .1) .1 in
+    let (b, d) = step-below _ (v .valid) _ (v .here) _ _ (sym (c .before .before .before .before .before .before .before .before .step-at .ensures) ∙ c .before .before .before .before .before .before .s .given .1) in
     (omega (arith, c .before .before .before .add-at .kept .0), omega arith)
 
 returns : tie.Need-returns

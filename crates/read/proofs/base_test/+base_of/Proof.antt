@@ -1,12 +1,10 @@
 use Rattle.read.proofs.Bases.{base-two}
-use Rattle.read.proofs.Tables.{two-operation, asked-fits, ask-left, ask-right, told-known, told-two, answer-two, told-word}
+use Rattle.read.proofs.Tables.{asked-fits, ask-left, ask-right, told-known, told-word}
 use Rattle.read.specs.Bases.{baseBit, baseJoin}
 use Rattle.read.specs.Tables.{itself}
 use Rattle.circuit.specs.Rank.{at}
-use lib.Seq.{getD-set-same, getD-set-other}
 use lib.ListN.{length-set}
-use mathlib.Core.Path.{refl, sym, ap, _∙_}
-use native.Mathlib.Omega.{arith}
+use mathlib.Core.Path.{refl, sym, _∙_}
 use borrow.Author.Needs.{needs}
 use Prim.Native.Nat.{ℕ, _<_}
 use borrow.Fn.Kinds.{In}
@@ -29,7 +27,6 @@ abbrev base-of-below : ℕ → In 3 base-of-kinds.ps
 base-of-below t =
     and 3 base-of-kinds.ps (falls 3 base-of-kinds.ps _<_ μ-base-of t) base-of.Pre
 
--- src/base_test.rt
 base-of-mul-known : (t : ℕ) → base-of-lts.Need-mul-known (
   step-at-reads.Asked,
   step-at-reads.Learnt,
@@ -40,7 +37,6 @@ base-of-mul-known : (t : ℕ) → base-of-lts.Need-mul-known (
 ) (base-of-at t) base-of.Post
 base-of-mul-known t c = search needs
 
--- src/base_test.rt
 base-of-slice-read-known : (t : ℕ) → base-of-lts.Need-slice-read-known (
   step-at-reads.Asked,
   step-at-reads.Learnt,
@@ -51,7 +47,6 @@ base-of-slice-read-known : (t : ℕ) → base-of-lts.Need-slice-read-known (
 ) (base-of-at t) base-of.Post
 base-of-slice-read-known t c = search needs
 
--- src/base_test.rt
 base-of-step-at-requires : (t : ℕ) → base-of-lts.Need-step-at-requires (
   step-at-reads.Asked,
   step-at-reads.Learnt,
@@ -62,7 +57,6 @@ base-of-step-at-requires : (t : ℕ) → base-of-lts.Need-step-at-requires (
 ) (base-of-at t) base-of.Post
 base-of-step-at-requires t c κs = asked-fits (c .before .before .before .before .pre .1)
 
--- src/base_test.rt
 base-of-enum-told : (t : ℕ) → base-of-lts.Need-enum-told (
   step-at-reads.Asked,
   step-at-reads.Learnt,
@@ -73,7 +67,6 @@ base-of-enum-told : (t : ℕ) → base-of-lts.Need-enum-told (
 ) (base-of-at t) base-of.Post
 base-of-enum-told t c = search needs
 
--- src/base_test.rt
 base-of-enum-known-s : (t : ℕ) → base-of-lts.Need-enum-known-s (
   step-at-reads.Asked,
   step-at-reads.Learnt,
@@ -84,7 +77,6 @@ base-of-enum-known-s : (t : ℕ) → base-of-lts.Need-enum-known-s (
 ) (base-of-at t) base-of.Post
 base-of-enum-known-s t c = search needs
 
--- src/base_test.rt
 base-of-base-of-requires : (t : ℕ) → base-of-lts.Need-base-of-requires (
   step-at-reads.Asked,
   step-at-reads.Learnt,
@@ -97,7 +89,6 @@ base-of-base-of-requires t c κs =
     let a = ask-left (c .before .before .before .before .before .before .before .before .before .pre .1) _ (sym (c .before .before .before .before .step-at .ensures) ∙ c .before .before .s .given .1) _ refl in
     (rw (c .before .before .before .before .before .before .before .before .before .pre .0) at (a .0), a .1)
 
--- src/base_test.rt
 base-of-base-of-requires-2 : (t : ℕ) → base-of-lts.Need-base-of-requires-2 (
   step-at-reads.Asked,
   step-at-reads.Learnt,
@@ -110,7 +101,6 @@ base-of-base-of-requires-2 t c κs =
     let a = ask-right (c .before .before .before .before .before .before .before .before .before .before .before .before .before .pre .1) _ (sym (c .before .before .before .before .before .before .before .before .step-at .ensures) ∙ c .before .before .before .before .before .before .s .given .1) _ (c .before .before .before .base-of .kept .1 .1 .0) in
     (rw (c .before .before .before .before .before .before .before .before .before .before .before .before .before .pre .0) at (a .0), a .1)
 
--- src/base_test.rt
 base-of-base-over-requires : (t : ℕ) → base-of-lts.Need-base-over-requires (
   step-at-reads.Asked,
   step-at-reads.Learnt,
@@ -121,7 +111,6 @@ base-of-base-over-requires : (t : ℕ) → base-of-lts.Need-base-over-requires (
 ) (base-of-at t) base-of.Post
 base-of-base-over-requires t c κs = search needs
 
--- src/base_test.rt
 base-of-mul-table : (t : ℕ) → base-of-lts.Need-mul-table (
   step-at-reads.Asked,
   step-at-reads.Learnt,
@@ -132,7 +121,6 @@ base-of-mul-table : (t : ℕ) → base-of-lts.Need-mul-table (
 ) (base-of-at t) base-of.Post
 base-of-mul-table t c = search needs
 
--- src/base_test.rt
 base-of-slice-write-table : (t : ℕ) → base-of-lts.Need-slice-write-table (
   step-at-reads.Asked,
   step-at-reads.Learnt,
@@ -143,7 +131,6 @@ base-of-slice-write-table : (t : ℕ) → base-of-lts.Need-slice-write-table (
 ) (base-of-at t) base-of.Post
 base-of-slice-write-table t c = search needs
 
--- src/base_test.rt
 base-of-returns : (t : ℕ) → base-of-lts.Need-returns (
   step-at-reads.Asked,
   step-at-reads.Learnt,
@@ -154,7 +141,6 @@ base-of-returns : (t : ℕ) → base-of-lts.Need-returns (
 ) (base-of-at t) base-of.Post
 base-of-returns t c = told-known itself _ _ _ _ _ (c .before .before .before .before .before .before .before .pre .1 .here) refl (sym (c .before .before .step-at .ensures) ∙ c .enum-told .given .1)
 
--- src/base_test.rt
 base-of-same-length : (t : ℕ) → base-of-lts.Need-same-length (
   step-at-reads.Asked,
   step-at-reads.Learnt,
@@ -165,7 +151,6 @@ base-of-same-length : (t : ℕ) → base-of-lts.Need-same-length (
 ) (base-of-at t) base-of.Post
 base-of-same-length t c = rw length-set (c .before .before .before .base-of2 .kept .1 .1 .0 ∙ c .before .before .before .before .before .before .before .base-of .kept .1 .1 .0)
 
--- src/base_test.rt
 base-of-returns-2 : (t : ℕ) → base-of-lts.Need-returns-2 (
   step-at-reads.Asked,
   step-at-reads.Learnt,

@@ -11,63 +11,46 @@ use mathlib.Core.Path.{sym, _∙_}
 use borrow.Author.Needs.{needs}
 use Rattle.read.proofs.base_test.base_test.Statement.{statement}
 use Rattle.read.proofs.base_test.base_test.Tie as tie
-use Rattle.read.proofs.base_test.base_test.Reads as reads
-use Rattle.read.proofs.base_test.base_test.Lts as lts
-use Rattle.circuit.proofs.check.check.Reads as check-reads
-use Rattle.read.proofs.base_test.base_of.Reads as base-of-reads
-use Rattle.read.proofs.base_test.leaf_bases.Reads as leaf-bases-reads
 
--- src/base_test.rt:105:18
 slice-aggregate-check : tie.Need-slice-aggregate-check
 slice-aggregate-check c = search needs
 
--- src/base_test.rt:105:30
 slice-aggregate-check-2 : tie.Need-slice-aggregate-check-2
 slice-aggregate-check-2 c = search needs
 
--- src/base_test.rt:105:9
 check-requires : tie.Need-check-requires
 check-requires c κs = search needs
 
--- src/base_test.rt:106:9
 returns : tie.Need-returns
 unfolding baseTestCall
 returns c = sym (reading-no-circuit (c .before .before .before .before .before .before .before .args .m .now) (c .before .before .before .before .before .before .before .args .i ∷ []) [] _ _ (refuses _ _ (c .before .before .before .check .ensures .told) (c .if1 .taken)))
 
--- src/base_test.rt:108:8
 shared-slice-read-if2 : tie.Need-shared-slice-read-if2
 shared-slice-read-if2 c = valid-length _ (accepts _ _ (c .before .before .before .before .check .ensures .told) (c .before .if1 .left))
 
--- src/base_test.rt:109:9
 returns-2 : tie.Need-returns-2
 unfolding baseTestCall
 returns-2 c = sym (reading-bad-id (c .before .before .before .before .before .before .before .before .before .args .m .now) (c .before .before .before .before .before .before .before .before .before .args .i ∷ []) [] _ _ (accepts _ _ (c .before .before .before .before .before .check .ensures .told) (c .before .before .if1 .left)) (bad-id-here (c .before .before .before .before .before .before .before .before .before .args .m .now) _ _ (c .if2 .taken)))
 
--- src/base_test.rt:112:19
 slice-aggregate-leaf-bases : tie.Need-slice-aggregate-leaf-bases
 slice-aggregate-leaf-bases c = search needs
 
--- src/base_test.rt:112:5
 leaf-bases-requires : tie.Need-leaf-bases-requires
 leaf-bases-requires c κs =
     let v = accepts _ _ (c .before .before .before .before .before .before .check .ensures .told) (c .before .before .before .if1 .left) in
     record { valid = v; room = omega (arith, valid-top _ v) }
 
--- src/base_test.rt:113:29
 slice-aggregate-base-of : tie.Need-slice-aggregate-base-of
 slice-aggregate-base-of c = search needs
 
--- src/base_test.rt:113:36
 slice-aggregate-base-of-2 : tie.Need-slice-aggregate-base-of-2
 slice-aggregate-base-of-2 c = search needs
 
--- src/base_test.rt:113:18
 base-of-requires : tie.Need-base-of-requires
 base-of-requires c κs =
     let v = accepts _ _ (c .before .before .before .before .before .before .before .before .before .before .check .ensures .told) (c .before .before .before .before .before .before .before .if1 .left) in
     record { ranked = sorted-ranked _ _ _ v (c .before .before .before .before .before .before .before .before .before .before .check .ensures .sorted (not-false _ (c .before .before .before .before .before .before .before .if1 .left))); room = omega (arith, valid-top _ v, c .before .before .before .leaf-bases .kept .1 .0); here = c .before .before .before .before .before .if2 .left }
 
--- src/base_test.rt:100:1
 returns-3 : tie.Need-returns-3
 unfolding baseTestCall
 returns-3 c =

@@ -5,16 +5,12 @@ use Rattle.read.specs.Tables.{Right, itself}
 use Rattle.circuit.proofs.Valid.{valid-length}
 use Rattle.circuit.specs.Rank.{at}
 use Rattle.circuit.specs.Words.{used}
-use mathlib.Core.Path.{refl, sym, ap, _∙_}
+use mathlib.Core.Path.{refl, _∙_}
 use Prim.Native.Nat.{_-_}
 use native.Mathlib.Omega.{arith}
 use borrow.Author.Needs.{needs}
 use Rattle.read.proofs.base_test.bases.Statement.{statement}
 use Rattle.read.proofs.base_test.bases.Tie as tie
-use Rattle.read.proofs.base_test.bases.Reads as reads
-use Rattle.read.proofs.base_test.bases.Lts as lts
-use Rattle.read.proofs.base_test.base_of.Reads as base-of-reads
-use Rattle.read.proofs.base_test.leaf_bases.Reads as leaf-bases-reads
 
 abbrev Inv-loop : tie.InvT-loop
 Inv-loop m rank table₀ n i₀ table i = Filling m table₀ table (at table) (baseBit m) i × Right itself m (at table) (baseBit m)
@@ -22,39 +18,30 @@ Inv-loop m rank table₀ n i₀ table i = Filling m table₀ table (at table) (b
 abbrev μ-loop : tie.MeasureT-loop
 μ-loop m rank table₀ n i₀ table i = used m - i
 
--- src/base_test.rt:84:5
 leaf-bases-requires : tie.Need-leaf-bases-requires Inv-loop μ-loop
 leaf-bases-requires c κs = record { valid = c .before .before .before .before .pre .ranked .valid; room = c .before .before .before .before .pre .room }
 
--- src/base_test.rt:85:13
 shared-slice-read-n : tie.Need-shared-slice-read-n Inv-loop μ-loop
 shared-slice-read-n c = valid-length _ (c .before .before .before .before .before .before .before .before .pre .ranked .valid)
 
--- src/base_test.rt:87:5
 loop-holds : tie.Need-loop-holds Inv-loop μ-loop
 loop-holds c = (filling-start _ _ _ _ _ 0 refl, base-leaves _ (c .before .before .before .before .before .before .before .before .pre .ranked .valid) _ (c .before .before .before .leaf-bases .ensures))
 
--- src/base_test.rt:88:9
 base-of-requires : tie.Need-base-of-requires Inv-loop μ-loop
 base-of-requires c κs = asked-one _ _ (c .before .before .before .before .before .before .before .before .before .before .before .pre) (c .before .before .loop .inv .0 .same ∙ c .before .before .before .before .before .before .leaf-bases .kept .1 .0) (c .before .loop-test .taken)
 
--- src/base_test.rt:89:9
 add-i : tie.Need-add-i Inv-loop μ-loop
 add-i c = search needs
 
--- src/base_test.rt:87:5
 loop-less : tie.Need-loop-less Inv-loop μ-loop
 loop-less c = omega arith
 
--- src/base_test.rt:87:5
 loop-again : tie.Need-loop-again Inv-loop μ-loop
 loop-again c = let t = c .before .before .base-of .ensures (c .before .before .before .before .before .loop .inv .1) in (filling-told itself _ _ _ _ _ _ _ _ _ (c .before .before .before .before .before .loop .inv .0) (c .before .before .before .before .loop-test .taken) (c .before .before .base-of .kept .1 .1 .0) t, t .right)
 
--- src/base_test.rt:80:1
 same-length : tie.Need-same-length Inv-loop μ-loop
 same-length c = c .before .loop .inv .0 .same ∙ c .before .before .before .before .before .leaf-bases .kept .1 .0
 
--- src/base_test.rt:80:1
 returns : tie.Need-returns Inv-loop μ-loop
 returns c = filling-done _ _ _ _ _ _ (c .before .loop .inv .0) (c .loop-test .left)
 

@@ -2,55 +2,41 @@ use Rattle.read.specs.Bases.{baseEntry}
 use borrow.Author.Needs.{needs}
 use Rattle.read.proofs.base_test.leaf_base.Statement.{statement}
 use Rattle.read.proofs.base_test.leaf_base.Tie as tie
-use Rattle.read.proofs.base_test.leaf_base.Reads as reads
-use Rattle.read.proofs.base_test.leaf_base.Lts as lts
-use Rattle.read.proofs.base_test.main_bit.Reads as main-bit-reads
 
--- src/base_test.rt:32:32
 enum-told : tie.Need-enum-told
 enum-told c = search needs
 
--- src/base_test.rt:33:37
 enum-told-2 : tie.Need-enum-told-2
 enum-told-2 c = search needs
 
--- src/base_test.rt:34:37
 enum-told-3 : tie.Need-enum-told-3
 enum-told-3 c = search needs
 
--- src/base_test.rt:35:43
 enum-told-4 : tie.Need-enum-told-4
 enum-told-4 c = search needs
 
--- src/base_test.rt:36:27
 enum-known-e : tie.Need-enum-known-e
 enum-known-e c = search needs
 
--- src/base_test.rt:36:33
 main-bit-requires : tie.Need-main-bit-requires
 main-bit-requires c κs = search needs
 
--- src/base_test.rt:28:1
 returns : tie.Need-returns
 unfolding baseEntry
 returns c = rw (c .enum-told .given .1)
 
--- src/base_test.rt:28:1
 returns-2 : tie.Need-returns-2
 unfolding baseEntry
 returns-2 c = rw (c .enum-told2 .given .1)
 
--- src/base_test.rt:28:1
 returns-3 : tie.Need-returns-3
 unfolding baseEntry
 returns-3 c = rw (c .enum-told3 .given .1)
 
--- src/base_test.rt:28:1
 returns-4 : tie.Need-returns-4
 unfolding baseEntry
 returns-4 c = rw (c .enum-told4 .given .1)
 
--- src/base_test.rt:28:1
 returns-5 : tie.Need-returns-5
 unfolding baseEntry
 returns-5 c = rw (c .before .before .e .given .1) (c .main-bit .ensures)

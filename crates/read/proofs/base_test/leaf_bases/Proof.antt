@@ -3,16 +3,12 @@ use Rattle.read.specs.Bases.{baseStart, baseEntry}
 use Rattle.circuit.proofs.Valid.{valid-length, valid-fits}
 use Rattle.circuit.specs.Rank.{at}
 use Rattle.circuit.specs.Words.{used}
-use mathlib.Core.Path.{refl, sym, ap, _∙_}
+use mathlib.Core.Path.{refl, ap, _∙_}
 use Prim.Native.Nat.{_-_}
 use native.Mathlib.Omega.{arith}
 use borrow.Author.Needs.{needs}
 use Rattle.read.proofs.base_test.leaf_bases.Statement.{statement}
 use Rattle.read.proofs.base_test.leaf_bases.Tie as tie
-use Rattle.read.proofs.base_test.leaf_bases.Reads as reads
-use Rattle.read.proofs.base_test.leaf_bases.Lts as lts
-use Rattle.circuit.proofs.place.expression_at.Reads as expression-at-reads
-use Rattle.read.proofs.base_test.leaf_base.Reads as leaf-base-reads
 
 abbrev Inv-loop : tie.InvT-loop
 Inv-loop m table₀ n i₀ table i = Filling m table₀ table (at table) (baseStart m) i
@@ -20,47 +16,36 @@ Inv-loop m table₀ n i₀ table i = Filling m table₀ table (at table) (baseSt
 abbrev μ-loop : tie.MeasureT-loop
 μ-loop m table₀ n i₀ table i = used m - i
 
--- src/base_test.rt:44:13
 shared-slice-read-n : tie.Need-shared-slice-read-n Inv-loop μ-loop
 shared-slice-read-n c = valid-length _ (c .before .before .before .pre .valid)
 
--- src/base_test.rt:46:5
 loop-holds : tie.Need-loop-holds Inv-loop μ-loop
 loop-holds c = filling-start _ _ _ _ _ 0 refl
 
--- src/base_test.rt:48:33
 expression-at-requires : tie.Need-expression-at-requires Inv-loop μ-loop
 expression-at-requires c κs = valid-fits _ (c .before .before .before .before .before .pre .valid) _ (c .loop-test .taken)
 
--- src/base_test.rt:48:23
 leaf-base-requires : tie.Need-leaf-base-requires Inv-loop μ-loop
 leaf-base-requires c κs = search needs
 
--- src/base_test.rt:48:9
 mul-table : tie.Need-mul-table Inv-loop μ-loop
 mul-table c = search needs
 
--- src/base_test.rt:48:9
 slice-write-table : tie.Need-slice-write-table Inv-loop μ-loop
 slice-write-table c = search needs
 
--- src/base_test.rt:49:9
 add-i : tie.Need-add-i Inv-loop μ-loop
 add-i c = search needs
 
--- src/base_test.rt:46:5
 loop-less : tie.Need-loop-less Inv-loop μ-loop
 loop-less c = omega arith
 
--- src/base_test.rt:46:5
 loop-again : tie.Need-loop-again Inv-loop μ-loop
 loop-again c = filling-word _ _ _ (baseStart _) _ _ (c .before .before .before .before .before .before .before .pre) (c .before .before .before .loop .inv) (c .before .before .loop-test .taken) (c .leaf-base .ensures ∙ ap baseEntry (c .before .expression-at .ensures))
 
--- src/base_test.rt:40:1
 same-length : tie.Need-same-length Inv-loop μ-loop
 same-length c = c .before .loop .inv .same
 
--- src/base_test.rt:40:1
 returns : tie.Need-returns Inv-loop μ-loop
 returns c = filling-done _ _ _ _ _ _ (c .before .loop .inv) (c .loop-test .left)
 

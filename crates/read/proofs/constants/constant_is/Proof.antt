@@ -1,58 +1,40 @@
-use Rattle.field.specs.Extension.{sameTriple}
-use mathlib.Core.Path.{sym, ap, _∙_}
 use borrow.Author.Needs.{needs}
 use Rattle.read.proofs.constants.constant_is.Statement.{statement}
 use Rattle.read.proofs.constants.constant_is.Tie as tie
-use Rattle.read.proofs.constants.constant_is.Reads as reads
-use Rattle.read.proofs.constants.constant_is.Lts as lts
-use Rattle.field.proofs.extension.equal.Reads as equal-reads
-use Rattle.field.proofs.extension.lift.Reads as lift-reads
 
--- src/constants.rt:24:26
 enum-known-e : tie.Need-enum-known-e
 enum-known-e c = search needs
 
--- src/constants.rt:25:31
 enum-known-e-2 : tie.Need-enum-known-e-2
 enum-known-e-2 c = search needs
 
--- src/constants.rt:25:57
 lift-requires : tie.Need-lift-requires
 lift-requires c κs = search needs
 
--- src/constants.rt:25:37
 equal-requires : tie.Need-equal-requires
 equal-requires c κs = search needs
 
--- src/constants.rt:26:37
 enum-told : tie.Need-enum-told
 enum-told c = search needs
 
--- src/constants.rt:27:43
 enum-told-2 : tie.Need-enum-told-2
 enum-told-2 c = search needs
 
--- src/constants.rt:28:33
 enum-told-3 : tie.Need-enum-told-3
 enum-told-3 c = search needs
 
--- src/constants.rt:20:1
 returns : tie.Need-returns
 returns c = rw (c .before .e .given .1)
 
--- src/constants.rt:20:1
 returns-2 : tie.Need-returns-2
 returns-2 c = rw (c .before .before .before .e2 .given .1, ← c .before .lift .ensures) (c .equal .ensures)
 
--- src/constants.rt:20:1
 returns-3 : tie.Need-returns-3
 returns-3 c = search needs
 
--- src/constants.rt:20:1
 returns-4 : tie.Need-returns-4
 returns-4 c = search needs
 
--- src/constants.rt:20:1
 returns-5 : tie.Need-returns-5
 returns-5 c = search needs
 

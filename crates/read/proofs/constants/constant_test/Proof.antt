@@ -6,34 +6,24 @@ use mathlib.Core.Path.{sym, _∙_}
 use borrow.Author.Needs.{needs}
 use Rattle.read.proofs.constants.constant_test.Statement.{statement}
 use Rattle.read.proofs.constants.constant_test.Tie as tie
-use Rattle.read.proofs.constants.constant_test.Reads as reads
-use Rattle.read.proofs.constants.constant_test.Lts as lts
-use Rattle.circuit.proofs.calls.is_circuit.Reads as is-circuit-reads
-use Rattle.read.proofs.constants.is_constant.Reads as is-constant-reads
 
--- src/constants.rt:43:9
 is-circuit-requires : tie.Need-is-circuit-requires
 is-circuit-requires c κs = search needs
 
--- src/constants.rt:44:9
 returns : tie.Need-returns
 unfolding constantCall
 returns c = sym (reading-no-circuit (c .before .before .before .args .m .now) (c .before .before .before .args .i ∷ []) [] _ _ (refuses _ _ (c .before .is-circuit .ensures) (c .if1 .taken)))
 
--- src/constants.rt:46:8
 shared-slice-read-if2 : tie.Need-shared-slice-read-if2
 shared-slice-read-if2 c = valid-length _ (accepts _ _ (c .before .before .is-circuit .ensures) (c .before .if1 .left))
 
--- src/constants.rt:47:9
 returns-2 : tie.Need-returns-2
 unfolding constantCall
 returns-2 c = sym (reading-bad-id (c .before .before .before .before .before .args .m .now) (c .before .before .before .before .before .args .i ∷ []) [] _ _ (accepts _ _ (c .before .before .before .is-circuit .ensures) (c .before .before .if1 .left)) (bad-id-here (c .before .before .before .before .before .args .m .now) _ _ (c .if2 .taken)))
 
--- src/constants.rt:49:18
 is-constant-requires : tie.Need-is-constant-requires
 is-constant-requires c κs = valid-fits _ (accepts _ _ (c .before .before .before .is-circuit .ensures) (c .before .before .if1 .left)) _ (c .if2 .left)
 
--- src/constants.rt:40:1
 returns-3 : tie.Need-returns-3
 unfolding constantCall
 returns-3 c = rw (c .is-constant .ensures) (sym (reading-accepted (c .before .before .before .before .before .before .args .m .now) (c .before .before .before .before .before .before .args .i ∷ []) [] _ _ (accepts _ _ (c .before .before .before .before .is-circuit .ensures) (c .before .before .before .if1 .left)) (bad-id-next (c .before .before .before .before .before .before .args .m .now) _ _ (c .before .if2 .left) ∙ no-bad-id (c .before .before .before .before .before .before .args .m .now)) refusal-none))

@@ -2,15 +2,10 @@ use Rattle.read.specs.Calls.{isMinusOneCall}
 use borrow.Author.Needs.{needs}
 use Rattle.read.proofs.constants.is_minus_one.Statement.{statement}
 use Rattle.read.proofs.constants.is_minus_one.Tie as tie
-use Rattle.read.proofs.constants.is_minus_one.Reads as reads
-use Rattle.read.proofs.constants.is_minus_one.Lts as lts
-use Rattle.read.proofs.constants.constant_test.Reads as constant-test-reads
 
--- src/constants.rt:67:5
 constant-test-requires : tie.Need-constant-test-requires
 constant-test-requires c κs = search needs
 
--- src/constants.rt:64:1
 returns : tie.Need-returns
 unfolding isMinusOneCall
 returns c = c .constant-test .ensures

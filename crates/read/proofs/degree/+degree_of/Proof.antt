@@ -1,12 +1,10 @@
 use Rattle.read.proofs.Degrees.{degree-two}
-use Rattle.read.proofs.Tables.{two-operation, asked-fits, ask-left, ask-right, told-known, told-two, answer-two, told-word}
+use Rattle.read.proofs.Tables.{asked-fits, ask-left, ask-right, told-known, told-word}
 use Rattle.read.specs.Degrees.{degreeTo, degreeJoin}
 use Rattle.read.specs.Tables.{itself}
 use Rattle.circuit.specs.Rank.{at}
-use lib.Seq.{getD-set-same, getD-set-other}
 use lib.ListN.{length-set}
-use mathlib.Core.Path.{refl, sym, ap, _∙_}
-use native.Mathlib.Omega.{arith}
+use mathlib.Core.Path.{refl, sym, _∙_}
 use borrow.Author.Needs.{needs}
 use Prim.Native.Nat.{ℕ, _<_}
 use borrow.Fn.Kinds.{In}
@@ -29,7 +27,6 @@ abbrev degree-of-below : ℕ → In 3 degree-of-kinds.ps
 degree-of-below t =
     and 3 degree-of-kinds.ps (falls 3 degree-of-kinds.ps _<_ μ-degree-of t) degree-of.Pre
 
--- src/degree.rt:56:17
 degree-of-mul-known : (t : ℕ) → degree-of-lts.Need-mul-known (
   step-at-reads.Asked,
   step-at-reads.Learnt,
@@ -40,7 +37,6 @@ degree-of-mul-known : (t : ℕ) → degree-of-lts.Need-mul-known (
 ) (degree-of-at t) degree-of.Post
 degree-of-mul-known t c = search needs
 
--- src/degree.rt:56:17
 degree-of-slice-read-known : (t : ℕ) → degree-of-lts.Need-slice-read-known (
   step-at-reads.Asked,
   step-at-reads.Learnt,
@@ -51,7 +47,6 @@ degree-of-slice-read-known : (t : ℕ) → degree-of-lts.Need-slice-read-known (
 ) (degree-of-at t) degree-of.Post
 degree-of-slice-read-known t c = search needs
 
--- src/degree.rt:57:9
 degree-of-step-at-requires : (t : ℕ) → degree-of-lts.Need-step-at-requires (
   step-at-reads.Asked,
   step-at-reads.Learnt,
@@ -62,7 +57,6 @@ degree-of-step-at-requires : (t : ℕ) → degree-of-lts.Need-step-at-requires (
 ) (degree-of-at t) degree-of.Post
 degree-of-step-at-requires t c κs = asked-fits (c .before .before .before .before .pre .1)
 
--- src/degree.rt:59:23
 degree-of-enum-told : (t : ℕ) → degree-of-lts.Need-enum-told (
   step-at-reads.Asked,
   step-at-reads.Learnt,
@@ -73,7 +67,6 @@ degree-of-enum-told : (t : ℕ) → degree-of-lts.Need-enum-told (
 ) (degree-of-at t) degree-of.Post
 degree-of-enum-told t c = search needs
 
--- src/degree.rt:60:19
 degree-of-enum-known-s : (t : ℕ) → degree-of-lts.Need-enum-known-s (
   step-at-reads.Asked,
   step-at-reads.Learnt,
@@ -84,7 +77,6 @@ degree-of-enum-known-s : (t : ℕ) → degree-of-lts.Need-enum-known-s (
 ) (degree-of-at t) degree-of.Post
 degree-of-enum-known-s t c = search needs
 
--- src/degree.rt:61:17
 degree-of-degree-of-requires : (t : ℕ) → degree-of-lts.Need-degree-of-requires (
   step-at-reads.Asked,
   step-at-reads.Learnt,
@@ -97,7 +89,6 @@ degree-of-degree-of-requires t c κs =
     let a = ask-left (c .before .before .before .before .before .before .before .before .before .pre .1) _ (sym (c .before .before .before .before .step-at .ensures) ∙ c .before .before .s .given .1) _ refl in
     (rw (c .before .before .before .before .before .before .before .before .before .pre .0) at (a .0), a .1)
 
--- src/degree.rt:62:17
 degree-of-degree-of-requires-2 : (t : ℕ) → degree-of-lts.Need-degree-of-requires-2 (
   step-at-reads.Asked,
   step-at-reads.Learnt,
@@ -110,7 +101,6 @@ degree-of-degree-of-requires-2 t c κs =
     let a = ask-right (c .before .before .before .before .before .before .before .before .before .before .before .before .before .pre .1) _ (sym (c .before .before .before .before .before .before .before .before .step-at .ensures) ∙ c .before .before .before .before .before .before .s .given .1) _ (c .before .before .before .degree-of .kept .1 .1 .0) in
     (rw (c .before .before .before .before .before .before .before .before .before .before .before .before .before .pre .0) at (a .0), a .1)
 
--- src/degree.rt:63:17
 degree-of-degree-over-requires : (t : ℕ) → degree-of-lts.Need-degree-over-requires (
   step-at-reads.Asked,
   step-at-reads.Learnt,
@@ -121,7 +111,6 @@ degree-of-degree-over-requires : (t : ℕ) → degree-of-lts.Need-degree-over-re
 ) (degree-of-at t) degree-of.Post
 degree-of-degree-over-requires t c κs = search needs
 
--- src/degree.rt:64:13
 degree-of-mul-table : (t : ℕ) → degree-of-lts.Need-mul-table (
   step-at-reads.Asked,
   step-at-reads.Learnt,
@@ -132,7 +121,6 @@ degree-of-mul-table : (t : ℕ) → degree-of-lts.Need-mul-table (
 ) (degree-of-at t) degree-of.Post
 degree-of-mul-table t c = search needs
 
--- src/degree.rt:64:13
 degree-of-slice-write-table : (t : ℕ) → degree-of-lts.Need-slice-write-table (
   step-at-reads.Asked,
   step-at-reads.Learnt,
@@ -143,7 +131,6 @@ degree-of-slice-write-table : (t : ℕ) → degree-of-lts.Need-slice-write-table
 ) (degree-of-at t) degree-of.Post
 degree-of-slice-write-table t c = search needs
 
--- src/degree.rt:51:1
 degree-of-returns : (t : ℕ) → degree-of-lts.Need-returns (
   step-at-reads.Asked,
   step-at-reads.Learnt,
@@ -154,7 +141,6 @@ degree-of-returns : (t : ℕ) → degree-of-lts.Need-returns (
 ) (degree-of-at t) degree-of.Post
 degree-of-returns t c = told-known itself _ _ _ _ _ (c .before .before .before .before .before .before .before .pre .1 .here) refl (sym (c .before .before .step-at .ensures) ∙ c .enum-told .given .1)
 
--- src/degree.rt:51:1
 degree-of-same-length : (t : ℕ) → degree-of-lts.Need-same-length (
   step-at-reads.Asked,
   step-at-reads.Learnt,
@@ -165,7 +151,6 @@ degree-of-same-length : (t : ℕ) → degree-of-lts.Need-same-length (
 ) (degree-of-at t) degree-of.Post
 degree-of-same-length t c = rw length-set (c .before .before .before .degree-of2 .kept .1 .1 .0 ∙ c .before .before .before .before .before .before .before .degree-of .kept .1 .1 .0)
 
--- src/degree.rt:51:1
 degree-of-returns-2 : (t : ℕ) → degree-of-lts.Need-returns-2 (
   step-at-reads.Asked,
   step-at-reads.Learnt,

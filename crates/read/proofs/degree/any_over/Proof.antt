@@ -10,9 +10,6 @@ use native.Mathlib.Omega.{arith}
 use borrow.Author.Needs.{needs}
 use Rattle.read.proofs.degree.any_over.Statement.{statement}
 use Rattle.read.proofs.degree.any_over.Tie as tie
-use Rattle.read.proofs.degree.any_over.Reads as reads
-use Rattle.read.proofs.degree.any_over.Lts as lts
-use Rattle.read.proofs.degree.is_over.Reads as is-over-reads
 
 abbrev Inv-loop : tie.InvT-loop
 Inv-loop m counts table n i₀ i = (i ≤ used m) × (any (overAt counts table) (upTo i) ≡ false)
@@ -20,51 +17,39 @@ Inv-loop m counts table n i₀ i = (i ≤ used m) × (any (overAt counts table) 
 abbrev μ-loop : tie.MeasureT-loop
 μ-loop m counts table n i₀ i = used m - i
 
--- src/degree.rt:157:13
 shared-slice-read-n : tie.Need-shared-slice-read-n Inv-loop μ-loop
 shared-slice-read-n c = valid-length _ (c .before .before .before .before .pre .valid)
 
--- src/degree.rt:159:5
 loop-holds : tie.Need-loop-holds Inv-loop μ-loop
 loop-holds c = (omega arith, any-start (overAt (c .before .before .before .before .args .counts .now) (c .before .before .before .before .args .table .now)))
 
--- src/degree.rt:161:20
 mul-is-over : tie.Need-mul-is-over Inv-loop μ-loop
 mul-is-over c = search needs
 
--- src/degree.rt:161:20
 shared-slice-read-is-over : tie.Need-shared-slice-read-is-over Inv-loop μ-loop
 shared-slice-read-is-over c = let r = c .before .before .before .before .before .before .before .pre .counts-room in omega arith
 
--- src/degree.rt:161:34
 mul-is-over-2 : tie.Need-mul-is-over-2 Inv-loop μ-loop
 mul-is-over-2 c = search needs
 
--- src/degree.rt:161:34
 shared-slice-read-is-over-2 : tie.Need-shared-slice-read-is-over-2 Inv-loop μ-loop
 shared-slice-read-is-over-2 c = let r = c .before .before .before .before .before .before .before .before .pre .table-room in omega arith
 
--- src/degree.rt:161:12
 is-over-requires : tie.Need-is-over-requires Inv-loop μ-loop
 is-over-requires c κs = search needs
 
--- src/degree.rt:162:13
 returns : tie.Need-returns Inv-loop μ-loop
 returns c = sym (any-one (overAt (c .before .before .before .before .before .before .before .before .before .before .args .counts .now) (c .before .before .before .before .before .before .before .before .before .before .args .table .now)) _ (c .before .before .before .before .before .loop .i) (c .before .before .before .before .loop-test .taken) (sym (c .before .is-over .ensures) ∙ c .if1 .taken))
 
--- src/degree.rt:164:9
 add-i : tie.Need-add-i Inv-loop μ-loop
 add-i c = search needs
 
--- src/degree.rt:159:5
 loop-less : tie.Need-loop-less Inv-loop μ-loop
 loop-less c = omega arith
 
--- src/degree.rt:159:5
 loop-again : tie.Need-loop-again Inv-loop μ-loop
 loop-again c = (omega arith, any-next (overAt (c .before .before .before .before .before .before .before .before .before .before .args .counts .now) (c .before .before .before .before .before .before .before .before .before .before .args .table .now)) (c .before .before .before .before .before .loop .i) (c .before .before .before .before .before .loop .inv .1) (sym (c .before .is-over .ensures) ∙ c .if1 .left))
 
--- src/degree.rt:153:1
 returns-2 : tie.Need-returns-2 Inv-loop μ-loop
 returns-2 c = let e : c .before .loop .i ≡ used (c .before .before .before .before .before .before .args .m .now) = omega arith in sym (rw e at (c .before .loop .inv .1))
 

@@ -8,74 +8,55 @@ use Rattle.circuit.proofs.Refusals.{refusal-none, refusal-here, refusal-next, r
 use mir.Facts.{toZ-ofZ}
 use mir.Syntax.{w64}
 use native.Mathlib.Omega.{arith}
-use mathlib.Core.List.{[], _∷_}
+use mathlib.Core.List.{[]}
 use mathlib.Core.Path.{sym, ap, _∙_}
 use borrow.Author.Needs.{needs, sfits-of}
 use Rattle.read.proofs.degree.highest_of.Statement.{statement}
 use Rattle.read.proofs.degree.highest_of.Tie as tie
-use Rattle.read.proofs.degree.highest_of.Reads as reads
-use Rattle.read.proofs.degree.highest_of.Lts as lts
-use Rattle.paths.proofs.counting.count_paths.Reads as count-paths-reads
-use Rattle.read.proofs.degree.any_over.Reads as any-over-reads
-use Rattle.read.proofs.degree.degrees.Reads as degrees-reads
-use Rattle.read.proofs.degree.highest_entry.Reads as highest-entry-reads
-use Rattle.read.proofs.degree.signed.Reads as signed-reads
 
--- src/degree.rt:191:40
 slice-aggregate-count-paths : tie.Need-slice-aggregate-count-paths
 slice-aggregate-count-paths c = search needs
 
--- src/degree.rt:191:5
 count-paths-requires : tie.Need-count-paths-requires
 count-paths-requires c κs = search needs
 
--- src/degree.rt:193:22
 slice-aggregate-degrees : tie.Need-slice-aggregate-degrees
 slice-aggregate-degrees c = search needs
 
--- src/degree.rt:193:5
 degrees-requires : tie.Need-degrees-requires
 degrees-requires c κs = record { ranked = sorted-ranked _ _ _ (c .before .before .before .before .before .before .before .before .pre .valid) (c .before .before .before .before .before .before .before .before .pre .sorted); room = omega (arith, valid-top _ (c .before .before .before .before .before .before .before .before .pre .valid)) }
 
--- src/degree.rt:194:20
 slice-aggregate-any-over : tie.Need-slice-aggregate-any-over
 slice-aggregate-any-over c = search needs
 
--- src/degree.rt:194:29
 slice-aggregate-any-over-2 : tie.Need-slice-aggregate-any-over-2
 slice-aggregate-any-over-2 c = search needs
 
--- src/degree.rt:194:8
 any-over-requires : tie.Need-any-over-requires
 any-over-requires c κs =
     let t = valid-top _ (c .before .before .before .before .before .before .before .before .before .before .before .before .pre .valid) in
     record { valid = c .before .before .before .before .before .before .before .before .before .before .before .before .pre .valid; counts-room = omega (arith, c .before .before .before .before .before .before .count-paths .kept .1 .1 .1 .1 .0); table-room = omega (arith, c .before .before .before .degrees .kept .1 .1 .0) }
 
--- src/degree.rt:195:9
 returns : tie.Need-returns
 unfolding highestCall
 returns c =
     let o = sym (over-told _ _ _ (c .before .before .before .before .before .degrees .last .1 .1 .0) (c .before .before .before .before .before .before .before .before .before .before .before .before .before .before .pre .valid) (c .before .before .before .before .before .before .before .before .before .before .before .before .before .before .pre .ids) (c .before .before .before .before .before .before .before .before .count-paths .ensures) (c .before .before .before .before .before .degrees .ensures)) ∙ sym (c .before .any-over .ensures) ∙ c .if1 .taken in
     sym (reading-refused (c .before .before .before .before .before .before .before .before .before .before .before .before .before .before .args .m .now) (c .before .before .before .before .before .before .before .before .before .before .before .before .before .before .args .roots .now) _ _ _ 10 (c .before .before .before .before .before .before .before .before .before .before .before .before .before .before .pre .valid) (c .before .before .before .before .before .before .before .before .before .before .before .before .before .before .pre .ids) (refusal-here 11 _ [] o))
 
--- src/degree.rt:197:47
 slice-aggregate-highest-entry : tie.Need-slice-aggregate-highest-entry
 slice-aggregate-highest-entry c = search needs
 
--- src/degree.rt:197:26
 highest-entry-requires : tie.Need-highest-entry-requires
 highest-entry-requires c κs =
     let t = valid-top _ (c .before .before .before .before .before .before .before .before .before .before .before .before .before .before .before .pre .valid) in
     record { below = λ k h. omega (arith, roots-below _ _ (c .before .before .before .before .before .before .before .before .before .before .before .before .before .before .before .pre .ids) k h, c .before .before .before .before .before .before .degrees .kept .1 .1 .0) }
 
--- src/degree.rt:197:19
 signed-requires : tie.Need-signed-requires
 signed-requires c κs =
     let t = c .before .before .before .before .before .before .before .degrees .last .1 .1 .0 in
     let o = sym (over-told _ _ _ t (c .before .before .before .before .before .before .before .before .before .before .before .before .before .before .before .before .pre .valid) (c .before .before .before .before .before .before .before .before .before .before .before .before .before .before .before .before .pre .ids) (c .before .before .before .before .before .before .before .before .before .before .count-paths .ensures) (c .before .before .before .before .before .before .before .degrees .ensures)) ∙ sym (c .before .before .before .any-over .ensures) ∙ c .before .before .if1 .left in
     rw (c .highest-entry .ensures) (highest-small _ _ _ t (c .before .before .before .before .before .before .before .before .before .before .before .before .before .before .before .before .pre .valid) (c .before .before .before .before .before .before .before .before .before .before .before .before .before .before .before .before .pre .ids) (c .before .before .before .before .before .before .before .before .before .before .count-paths .ensures) (c .before .before .before .before .before .before .before .degrees .ensures) o)
 
--- src/degree.rt:186:1
 returns-2 : tie.Need-returns-2
 unfolding highestCall
 returns-2 c =

@@ -2,14 +2,10 @@ use borrow.Author.Tests.{lt-ltb, le-ltb}
 use native.Mathlib.Omega.{arith}
 use Rattle.read.proofs.degree.is_over.Statement.{statement}
 use Rattle.read.proofs.degree.is_over.Tie as tie
-use Rattle.read.proofs.degree.is_over.Reads as reads
-use Rattle.read.proofs.degree.is_over.Lts as lts
 
--- src/degree.rt:148:9
 returns : tie.Need-returns
 returns c = rw (le-ltb 0 (c .before .args .count) (omega arith))
 
--- src/degree.rt:144:1
 returns-2 : tie.Need-returns-2
 returns-2 c = rw (lt-ltb 0 (c .before .args .count) (let n = c .if1 .left in omega arith))
 

@@ -1,73 +1,54 @@
 use Rattle.read.specs.Degrees.{degreeEntry}
 use borrow.Author.Tests.{eq-eqb, ne-eqb}
-use mathlib.Core.Path.{sym, ap, _∙_}
 use borrow.Author.Needs.{needs}
 use Rattle.read.proofs.degree.leaf_degree.Statement.{statement}
 use Rattle.read.proofs.degree.leaf_degree.Tie as tie
-use Rattle.read.proofs.degree.leaf_degree.Reads as reads
-use Rattle.read.proofs.degree.leaf_degree.Lts as lts
-use Rattle.field.proofs.extension.equal.Reads as equal-reads
-use Rattle.field.proofs.extension.lift.Reads as lift-reads
 
--- src/degree.rt:52:26
 enum-known-e : tie.Need-enum-known-e
 enum-known-e c = search needs
 
--- src/degree.rt:54:17
 returns : tie.Need-returns
 unfolding degreeEntry
 returns c = rw (c .before .before .e .given .1, eq-eqb _ _ (c .if1 .taken))
 
--- src/degree.rt:58:31
 enum-known-e-2 : tie.Need-enum-known-e-2
 enum-known-e-2 c = search needs
 
--- src/degree.rt:59:36
 lift-requires : tie.Need-lift-requires
 lift-requires c κs = search needs
 
--- src/degree.rt:59:16
 equal-requires : tie.Need-equal-requires
 equal-requires c κs = search needs
 
--- src/degree.rt:60:17
 returns-2 : tie.Need-returns-2
 unfolding degreeEntry
 returns-2 c = rw (c .before .before .before .before .e2 .given .1, ← c .before .before .lift .ensures, ← c .before .equal .ensures, c .if2 .taken)
 
--- src/degree.rt:64:37
 enum-told : tie.Need-enum-told
 enum-told c = search needs
 
--- src/degree.rt:65:43
 enum-told-2 : tie.Need-enum-told-2
 enum-told-2 c = search needs
 
--- src/degree.rt:66:33
 enum-told-3 : tie.Need-enum-told-3
 enum-told-3 c = search needs
 
--- src/degree.rt:48:1
 returns-3 : tie.Need-returns-3
 unfolding degreeEntry
 returns-3 c = rw (c .before .before .e .given .1, ne-eqb _ _ (c .if1 .left))
 
--- src/degree.rt:48:1
 returns-4 : tie.Need-returns-4
 unfolding degreeEntry
 returns-4 c = rw (c .before .before .before .before .e2 .given .1, ← c .before .before .lift .ensures, ← c .before .equal .ensures, c .if2 .left)
 
--- src/degree.rt:48:1
 returns-5 : tie.Need-returns-5
 unfolding degreeEntry
 returns-5 c = rw (c .enum-told .given .1)
 
--- src/degree.rt:48:1
 returns-6 : tie.Need-returns-6
 unfolding degreeEntry
 returns-6 c = rw (c .enum-told2 .given .1)
 
--- src/degree.rt:48:1
 returns-7 : tie.Need-returns-7
 unfolding degreeEntry
 returns-7 c = rw (c .enum-told3 .given .1)

@@ -3,46 +3,34 @@ use mathlib.Core.Path.{sym, ap}
 use borrow.Author.Needs.{needs}
 use Rattle.read.proofs.step.operands_of.Statement.{statement}
 use Rattle.read.proofs.step.operands_of.Tie as tie
-use Rattle.read.proofs.step.operands_of.Reads as reads
-use Rattle.read.proofs.step.operands_of.Lts as lts
 
--- src/step.rt:24:32
 enum-told : tie.Need-enum-told
 enum-told c = search needs
 
--- src/step.rt:25:37
 enum-told-2 : tie.Need-enum-told-2
 enum-told-2 c = search needs
 
--- src/step.rt:26:37
 enum-told-3 : tie.Need-enum-told-3
 enum-told-3 c = search needs
 
--- src/step.rt:27:31
 enum-known-e : tie.Need-enum-known-e
 enum-known-e c = search needs
 
--- src/step.rt:28:33
 enum-told-4 : tie.Need-enum-told-4
 enum-told-4 c = search needs
 
--- src/step.rt:20:1
 returns : tie.Need-returns
 returns c = search needs
 
--- src/step.rt:20:1
 returns-2 : tie.Need-returns-2
 returns-2 c = search needs
 
--- src/step.rt:20:1
 returns-3 : tie.Need-returns-3
 returns-3 c = search needs
 
--- src/step.rt:20:1
 returns-4 : tie.Need-returns-4
 returns-4 c = sym (ap operandsOf (c .before .e .given .1))
 
--- src/step.rt:20:1
 returns-5 : tie.Need-returns-5
 returns-5 c = search needs
 

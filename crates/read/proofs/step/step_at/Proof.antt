@@ -1,28 +1,20 @@
 use Rattle.read.specs.Tables.{operandsOf, stepAt}
 use borrow.Author.Tests.{eq-eqb, ne-eqb}
-use mathlib.Core.Path.{sym, ap, _∙_}
+use mathlib.Core.Path.{ap, _∙_}
 use borrow.Author.Needs.{needs}
 use Rattle.read.proofs.step.step_at.Statement.{statement}
 use Rattle.read.proofs.step.step_at.Tie as tie
-use Rattle.read.proofs.step.step_at.Reads as reads
-use Rattle.read.proofs.step.step_at.Lts as lts
-use Rattle.circuit.proofs.place.expression_at.Reads as expression-at-reads
-use Rattle.read.proofs.step.operands_of.Reads as operands-of-reads
 
--- src/step.rt:38:9
 returns : tie.Need-returns
 unfolding stepAt
 returns c = rw (ne-eqb _ _ (c .if1 .taken))
 
--- src/step.rt:40:17
 expression-at-requires : tie.Need-expression-at-requires
 expression-at-requires c κs = search needs
 
--- src/step.rt:40:5
 operands-of-requires : tie.Need-operands-of-requires
 operands-of-requires c κs = search needs
 
--- src/step.rt:33:1
 returns-2 : tie.Need-returns-2
 unfolding stepAt
 returns-2 c = rw (eq-eqb _ _ (c .before .before .if1 .left)) (c .operands-of .ensures ∙ ap operandsOf (c .before .expression-at .ensures))

@@ -9,9 +9,6 @@ use native.Mathlib.Omega.{arith}
 use borrow.Author.Needs.{needs}
 use Rattle.read.proofs.table.any_bad.Statement.{statement}
 use Rattle.read.proofs.table.any_bad.Tie as tie
-use Rattle.read.proofs.table.any_bad.Reads as reads
-use Rattle.read.proofs.table.any_bad.Lts as lts
-use Rattle.circuit.proofs.check.bad_word.Reads as bad-word-reads
 
 abbrev Inv-loop : tie.InvT-loop
 Inv-loop ws k₀ k = (k ≤ length ws) × (any badWord (take k ws) ≡ false)
@@ -19,39 +16,30 @@ Inv-loop ws k₀ k = (k ≤ length ws) × (any badWord (take k ws) ≡ false)
 abbrev μ-loop : tie.MeasureT-loop
 μ-loop ws k₀ k = length ws - k
 
--- src/table.rt:125:5
 loop-holds : tie.Need-loop-holds Inv-loop μ-loop
 loop-holds c = (omega arith, any-none-yet badWord (c .before .args .ws .now))
 
--- src/table.rt:126:21
 mul-bad-word : tie.Need-mul-bad-word Inv-loop μ-loop
 mul-bad-word c = search needs
 
--- src/table.rt:126:21
 shared-slice-read-bad-word : tie.Need-shared-slice-read-bad-word Inv-loop μ-loop
 shared-slice-read-bad-word c = search needs
 
--- src/table.rt:126:12
 bad-word-requires : tie.Need-bad-word-requires Inv-loop μ-loop
 bad-word-requires c κs = search needs
 
--- src/table.rt:127:13
 returns : tie.Need-returns Inv-loop μ-loop
 returns c = sym (any-here badWord (c .before .before .before .before .before .before .args .ws .now) (c .before .before .before .before .loop .k) (c .before .before .before .loop-test .taken) (sym (c .before .bad-word .ensures) ∙ c .if1 .taken))
 
--- src/table.rt:129:9
 add-k : tie.Need-add-k Inv-loop μ-loop
 add-k c = search needs
 
--- src/table.rt:125:5
 loop-less : tie.Need-loop-less Inv-loop μ-loop
 loop-less c = omega arith
 
--- src/table.rt:125:5
 loop-again : tie.Need-loop-again Inv-loop μ-loop
 loop-again c = (omega arith, any-not-here badWord (c .before .before .before .before .before .before .args .ws .now) (c .before .before .before .before .loop .k) (c .before .before .before .loop-test .taken) (c .before .before .before .before .loop .inv .1) (sym (c .before .bad-word .ensures) ∙ c .if1 .left))
 
--- src/table.rt:121:1
 returns-2 : tie.Need-returns-2 Inv-loop μ-loop
 returns-2 c = sym (any-nowhere badWord (c .before .before .before .args .ws .now) (c .before .loop .k) (c .loop-test .left) (c .before .loop .inv .1))
 

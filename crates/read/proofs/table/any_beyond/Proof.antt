@@ -10,9 +10,6 @@ use native.Mathlib.Omega.{arith}
 use borrow.Author.Needs.{needs}
 use Rattle.read.proofs.table.any_beyond.Statement.{statement}
 use Rattle.read.proofs.table.any_beyond.Tie as tie
-use Rattle.read.proofs.table.any_beyond.Reads as reads
-use Rattle.read.proofs.table.any_beyond.Lts as lts
-use Rattle.read.proofs.table.is_beyond.Reads as is-beyond-reads
 
 abbrev Inv-loop : tie.InvT-loop
 Inv-loop m counts c n i₀ i = (i ≤ used m) × (any (beyondAt m counts c) (upTo i) ≡ false)
@@ -20,35 +17,27 @@ Inv-loop m counts c n i₀ i = (i ≤ used m) × (any (beyondAt m counts c) (upT
 abbrev μ-loop : tie.MeasureT-loop
 μ-loop m counts c n i₀ i = used m - i
 
--- src/table.rt:87:13
 shared-slice-read-n : tie.Need-shared-slice-read-n Inv-loop μ-loop
 shared-slice-read-n c = valid-length _ (c .before .before .before .pre .valid)
 
--- src/table.rt:89:5
 loop-holds : tie.Need-loop-holds Inv-loop μ-loop
 loop-holds c = (omega arith, any-start (beyondAt (c .before .before .before .args .m .now) (c .before .before .before .args .counts .now) (c .before .before .before .args .c)))
 
--- src/table.rt:90:12
 is-beyond-requires : tie.Need-is-beyond-requires Inv-loop μ-loop
 is-beyond-requires c κs = (c .before .before .before .before .before .pre, c .loop-test .taken)
 
--- src/table.rt:91:13
 returns : tie.Need-returns Inv-loop μ-loop
 returns c = sym (any-one (beyondAt (c .before .before .before .before .before .before .before .args .m .now) (c .before .before .before .before .before .before .before .args .counts .now) (c .before .before .before .before .before .before .before .args .c)) _ (c .before .before .before .loop .i) (c .before .before .loop-test .taken) (sym (c .before .is-beyond .ensures) ∙ c .if1 .taken))
 
--- src/table.rt:93:9
 add-i : tie.Need-add-i Inv-loop μ-loop
 add-i c = search needs
 
--- src/table.rt:89:5
 loop-less : tie.Need-loop-less Inv-loop μ-loop
 loop-less c = omega arith
 
--- src/table.rt:89:5
 loop-again : tie.Need-loop-again Inv-loop μ-loop
 loop-again c = (omega arith, any-next (beyondAt (c .before .before .before .before .before .before .before .args .m .now) (c .before .before .before .before .before .before .before .args .counts .now) (c .before .before .before .before .before .before .before .args .c)) (c .before .before .before .loop .i) (c .before .before .before .loop .inv .1) (sym (c .before .is-beyond .ensures) ∙ c .if1 .left))
 
--- src/table.rt:83:1
 returns-2 : tie.Need-returns-2 Inv-loop μ-loop
 returns-2 c = let e : c .before .loop .i ≡ used (c .before .before .before .before .before .args .m .now) = omega arith in sym (rw e at (c .before .loop .inv .1))
 

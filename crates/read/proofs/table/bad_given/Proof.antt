@@ -1,34 +1,24 @@
 use Rattle.read.proofs.Lists.{any-three}
 use Rattle.circuit.specs.NotCircuit.{badWord}
-use mathlib.Core.Path.{sym, _∙_}
 use borrow.Author.Needs.{needs}
 use Rattle.read.proofs.table.bad_given.Statement.{statement}
 use Rattle.read.proofs.table.bad_given.Tie as tie
-use Rattle.read.proofs.table.bad_given.Reads as reads
-use Rattle.read.proofs.table.bad_given.Lts as lts
-use Rattle.read.proofs.table.any_bad.Reads as any-bad-reads
 
--- src/table.rt:138:8
 any-bad-requires : tie.Need-any-bad-requires
 any-bad-requires c κs = search needs
 
--- src/table.rt:139:9
 returns : tie.Need-returns
 returns c = rw (any-three badWord (c .before .before .before .before .before .args .main .now) (c .before .before .before .before .before .args .aux .now) (c .before .before .before .before .before .args .challenges .now), ← c .before .any-bad .ensures, c .if1 .taken)
 
--- src/table.rt:141:8
 any-bad-requires-2 : tie.Need-any-bad-requires-2
 any-bad-requires-2 c κs = search needs
 
--- src/table.rt:142:9
 returns-2 : tie.Need-returns-2
 returns-2 c = rw (any-three badWord (c .before .before .before .before .before .before .before .args .main .now) (c .before .before .before .before .before .before .before .args .aux .now) (c .before .before .before .before .before .before .before .args .challenges .now), ← c .before .before .before .any-bad .ensures, c .before .before .if1 .left, ← c .before .any-bad2 .ensures, c .if2 .taken)
 
--- src/table.rt:144:5
 any-bad-requires-3 : tie.Need-any-bad-requires-3
 any-bad-requires-3 c κs = search needs
 
--- src/table.rt:135:1
 returns-3 : tie.Need-returns-3
 returns-3 c = rw (any-three badWord (c .before .before .before .before .before .before .before .before .args .main .now) (c .before .before .before .before .before .before .before .before .args .aux .now) (c .before .before .before .before .before .before .before .before .args .challenges .now), ← c .before .before .before .before .any-bad .ensures, c .before .before .before .if1 .left, ← c .before .before .any-bad2 .ensures, c .before .if2 .left) (c .any-bad3 .ensures)
 

@@ -9,48 +9,33 @@ use mathlib.Core.Path.{sym, ap, _∙_}
 use borrow.Author.Needs.{needs}
 use Rattle.read.proofs.table.bad_table.Statement.{statement}
 use Rattle.read.proofs.table.bad_table.Tie as tie
-use Rattle.read.proofs.table.bad_table.Reads as reads
-use Rattle.read.proofs.table.bad_table.Lts as lts
-use Rattle.paths.proofs.counting.count_paths.Reads as count-paths-reads
-use Rattle.read.proofs.table.any_beyond.Reads as any-beyond-reads
-use Rattle.read.proofs.table.columns_of.Reads as columns-of-reads
-use Rattle.read.proofs.table.is_uneven.Reads as is-uneven-reads
 
--- src/table.rt:111:8
 is-uneven-requires : tie.Need-is-uneven-requires
 is-uneven-requires c κs = search needs
 
--- src/table.rt:112:9
 returns : tie.Need-returns
 returns c = table-uneven (c .before .before .before .before .before .before .before .before .args .m .now) (c .before .before .before .before .before .before .before .before .args .main .now) (c .before .before .before .before .before .before .before .before .args .aux .now) (c .before .before .before .before .before .before .before .before .args .challenges .now) _ (sym (c .before .is-uneven .ensures) ∙ c .if1 .taken)
 
--- src/table.rt:116:33
 slice-aggregate-count-paths : tie.Need-slice-aggregate-count-paths
 slice-aggregate-count-paths c = search needs
 
--- src/table.rt:116:41
 slice-aggregate-count-paths-2 : tie.Need-slice-aggregate-count-paths-2
 slice-aggregate-count-paths-2 c = search needs
 
--- src/table.rt:116:5
 count-paths-requires : tie.Need-count-paths-requires
 count-paths-requires c κs = search needs
 
--- src/table.rt:117:9
 columns-of-requires : tie.Need-columns-of-requires
 columns-of-requires c κs = search needs
 
--- src/table.rt:118:19
 slice-aggregate-any-beyond : tie.Need-slice-aggregate-any-beyond
 slice-aggregate-any-beyond c = search needs
 
--- src/table.rt:118:5
 any-beyond-requires : tie.Need-any-beyond-requires
 any-beyond-requires c κs = record { valid = c .before .before .before .before .before .before .before .before .before .before .before .before .before .before .pre .valid; room = omega (arith, valid-top _ (c .before .before .before .before .before .before .before .before .before .before .before .before .before .before .pre .valid), c .before .before .before .count-paths .kept .1 .1 .1 .1 .0) }
 
--- src/table.rt:99:1
 returns-2 : tie.Need-returns-2
-returns-2 c = 
+returns-2 c =
     c .any-beyond .ensures
     ∙ ap (λ (x : Columns). any (beyondAt (c .before .before .before .before .before .before .before .before .before .before .before .before .before .before .before .args .m .now) (c .before .before .before .before .count-paths .last .1 .1 .1 .1 .0) x) (upTo (used (c .before .before .before .before .before .before .before .before .before .before .before .before .before .before .before .args .m .now)))) (c .before .before .columns-of .ensures)
     ∙ table-even (c .before .before .before .before .before .before .before .before .before .before .before .before .before .before .before .args .m .now) (c .before .before .before .before .before .before .before .before .before .before .before .before .before .before .before .args .main .now) (c .before .before .before .before .before .before .before .before .before .before .before .before .before .before .before .args .aux .now) (c .before .before .before .before .before .before .before .before .before .before .before .before .before .before .before .args .challenges .now) _ _ (c .before .before .before .before .before .before .before .before .before .before .before .before .before .before .before .pre .valid) (c .before .before .before .before .before .before .before .before .before .before .before .before .before .before .before .pre .ids) (c .before .before .before .before .count-paths .ensures) (sym (c .before .before .before .before .before .before .before .before .is-uneven .ensures) ∙ c .before .before .before .before .before .before .before .if1 .left)

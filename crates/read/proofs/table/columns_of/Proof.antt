@@ -4,26 +4,19 @@ use native.Mathlib.Omega.{arith}
 use borrow.Author.Needs.{needs}
 use Rattle.read.proofs.table.columns_of.Statement.{statement}
 use Rattle.read.proofs.table.columns_of.Tie as tie
-use Rattle.read.proofs.table.columns_of.Reads as reads
-use Rattle.read.proofs.table.columns_of.Lts as lts
 
--- src/table.rt:30:16
 shared-slice-read-rows : tie.Need-shared-slice-read-rows
 shared-slice-read-rows c = omega (arith, valid-length _ (c .before .pre))
 
--- src/table.rt:32:16
 div-t9 : tie.Need-div-t9
 div-t9 c = let r = valid-rows _ (c .before .pre) in search needs
 
--- src/table.rt:33:28
 mul-t11 : tie.Need-mul-t11
 mul-t11 c = let r = valid-rows _ (c .before .pre) in search needs
 
--- src/table.rt:33:15
 div-t12 : tie.Need-div-t12
 div-t12 c = let r = valid-rows _ (c .before .pre) in search needs
 
--- src/table.rt:26:1
 returns : tie.Need-returns
 returns c = search needs
 

@@ -7,33 +7,23 @@ use native.Mathlib.Omega.{arith}
 use borrow.Author.Needs.{needs}
 use Rattle.read.proofs.table.is_beyond.Statement.{statement}
 use Rattle.read.proofs.table.is_beyond.Tie as tie
-use Rattle.read.proofs.table.is_beyond.Reads as reads
-use Rattle.read.proofs.table.is_beyond.Lts as lts
-use Rattle.circuit.proofs.place.expression_at.Reads as expression-at-reads
-use Rattle.read.proofs.table.reads_beyond.Reads as reads-beyond-reads
 
--- src/table.rt:77:8
 mul-if1 : tie.Need-mul-if1
 mul-if1 c = search needs
 
--- src/table.rt:77:8
 shared-slice-read-if1 : tie.Need-shared-slice-read-if1
 shared-slice-read-if1 c = search needs
 
--- src/table.rt:78:9
 returns : tie.Need-returns
 unfolding beyondAt
 returns c = rw (le-ltb 0 (at (c .before .before .before .before .args .counts .now) (c .before .before .before .before .args .i)) (let e = c .if1 .taken in omega arith))
 
--- src/table.rt:80:21
 expression-at-requires : tie.Need-expression-at-requires
 expression-at-requires c κs = valid-fits _ (c .before .before .before .before .pre .0 .valid) _ (c .before .before .before .before .pre .1)
 
--- src/table.rt:80:5
 reads-beyond-requires : tie.Need-reads-beyond-requires
 reads-beyond-requires c κs = search needs
 
--- src/table.rt:72:1
 returns-2 : tie.Need-returns-2
 unfolding beyondAt
 returns-2 c = rw (lt-ltb 0 (at (c .before .before .before .before .before .before .args .counts .now) (c .before .before .before .before .before .before .args .i)) (let e = c .before .before .if1 .left in omega arith)) (c .reads-beyond .ensures ∙ ap (beyond (c .before .before .before .before .before .before .args .c)) (c .before .expression-at .ensures))

@@ -5,34 +5,25 @@ use borrow.Author.Tests.{eq-eqb, ne-eqb}
 use native.Mathlib.Omega.{arith}
 use Rattle.read.proofs.table.is_uneven.Statement.{statement}
 use Rattle.read.proofs.table.is_uneven.Tie as tie
-use Rattle.read.proofs.table.is_uneven.Reads as reads
-use Rattle.read.proofs.table.is_uneven.Lts as lts
 
--- src/table.rt:43:16
 shared-slice-read-rows : tie.Need-shared-slice-read-rows
 shared-slice-read-rows c = omega (arith, valid-length _ (c .before .pre))
 
--- src/table.rt:44:8
 rem-if1 : tie.Need-rem-if1
 rem-if1 c = let r = valid-rows _ (c .before .pre) in search needs
 
--- src/table.rt:45:9
 returns : tie.Need-returns
 returns c = rw (ne-eqb _ _ (c .if1 .taken))
 
--- src/table.rt:47:21
 mul-if2 : tie.Need-mul-if2
 mul-if2 c = let r = valid-rows _ (c .before .before .pre) in search needs
 
--- src/table.rt:47:8
 rem-if2 : tie.Need-rem-if2
 rem-if2 c = let r = valid-rows _ (c .before .before .pre) in search needs
 
--- src/table.rt:48:9
 returns-2 : tie.Need-returns-2
 returns-2 c = rw (eq-eqb _ _ (c .before .if1 .left), ne-eqb _ _ (c .if2 .taken))
 
--- src/table.rt:39:1
 returns-3 : tie.Need-returns-3
 returns-3 c = rw (eq-eqb _ _ (c .before .if1 .left), eq-eqb _ _ (c .if2 .left))
 

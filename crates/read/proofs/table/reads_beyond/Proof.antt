@@ -1,74 +1,55 @@
 use borrow.Author.Needs.{needs}
 use Rattle.read.proofs.table.reads_beyond.Statement.{statement}
 use Rattle.read.proofs.table.reads_beyond.Tie as tie
-use Rattle.read.proofs.table.reads_beyond.Reads as reads
-use Rattle.read.proofs.table.reads_beyond.Lts as lts
 
--- src/table.rt:58:32
 enum-told : tie.Need-enum-told
 enum-told c = search needs
 
--- src/table.rt:59:37
 enum-told-2 : tie.Need-enum-told-2
 enum-told-2 c = search needs
 
--- src/table.rt:60:31
 enum-known-e : tie.Need-enum-known-e
 enum-known-e c = search needs
 
--- src/table.rt:61:43
 enum-told-3 : tie.Need-enum-told-3
 enum-told-3 c = search needs
 
--- src/table.rt:62:27
 enum-known-e-2 : tie.Need-enum-known-e-2
 enum-known-e-2 c = search needs
 
--- src/table.rt:63:28
 enum-known-q : tie.Need-enum-known-q
 enum-known-q c = search needs
 
--- src/table.rt:64:27
 enum-known-q-2 : tie.Need-enum-known-q-2
 enum-known-q-2 c = search needs
 
--- src/table.rt:65:32
 enum-known-q-3 : tie.Need-enum-known-q-3
 enum-known-q-3 c = search needs
 
--- src/table.rt:66:31
 enum-known-q-4 : tie.Need-enum-known-q-4
 enum-known-q-4 c = search needs
 
--- src/table.rt:54:1
 returns : tie.Need-returns
 returns c = search needs
 
--- src/table.rt:54:1
 returns-2 : tie.Need-returns-2
 returns-2 c = search needs
 
--- src/table.rt:54:1
 returns-3 : tie.Need-returns-3
 returns-3 c = rw (c .before .before .e .given .1)
 
--- src/table.rt:54:1
 returns-4 : tie.Need-returns-4
 returns-4 c = search needs
 
--- src/table.rt:54:1
 returns-5 : tie.Need-returns-5
 returns-5 c = rw (c .before .before .before .before .before .e2 .given .1, c .before .before .q .given .1)
 
--- src/table.rt:54:1
 returns-6 : tie.Need-returns-6
 returns-6 c = rw (c .before .before .before .before .before .e2 .given .1, c .before .before .q2 .given .1)
 
--- src/table.rt:54:1
 returns-7 : tie.Need-returns-7
 returns-7 c = rw (c .before .before .before .before .before .e2 .given .1, c .before .before .q3 .given .1)
 
--- src/table.rt:54:1
 returns-8 : tie.Need-returns-8
 returns-8 c = rw (c .before .before .before .before .before .e2 .given .1, c .before .before .q4 .given .1)
 

@@ -1,9 +1,8 @@
-use Rattle.read.proofs.Values.{told-triple, put-length}
+use Rattle.read.proofs.Values.{told-triple}
 use Rattle.read.proofs.Tables.{asked-fits, ask-left, ask-right, told-known}
-use Rattle.read.specs.Calls.{tripleAt}
-use Rattle.read.specs.Values.{firstWord, valueAt}
+use Rattle.read.specs.Values.{firstWord}
 use Rattle.circuit.specs.Rank.{at}
-use mathlib.Core.Path.{refl, sym, ap, _∙_}
+use mathlib.Core.Path.{refl, sym, _∙_}
 use native.Mathlib.Omega.{arith}
 use borrow.Author.Needs.{needs}
 use Prim.Native.Nat.{ℕ, _<_}
@@ -29,7 +28,6 @@ abbrev value-of-below : ℕ → In 3 value-of-kinds.ps
 value-of-below t =
     and 3 value-of-kinds.ps (falls 3 value-of-kinds.ps _<_ μ-value-of t) value-of.Pre
 
--- src/value.rt:118:9
 value-of-aux-at-requires : (t : ℕ) → value-of-lts.Need-aux-at-requires (
   aux-at-reads.Asked,
   aux-at-reads.Learnt,
@@ -44,7 +42,6 @@ value-of-aux-at-requires : (t : ℕ) → value-of-lts.Need-aux-at-requires (
 ) (value-of-at t) value-of.Post
 value-of-aux-at-requires t c κs = search needs
 
--- src/value.rt:119:9
 value-of-step-at-requires : (t : ℕ) → value-of-lts.Need-step-at-requires (
   aux-at-reads.Asked,
   aux-at-reads.Learnt,
@@ -59,7 +56,6 @@ value-of-step-at-requires : (t : ℕ) → value-of-lts.Need-step-at-requires (
 ) (value-of-at t) value-of.Post
 value-of-step-at-requires t c κs = asked-fits (c .before .before .before .before .before .pre .1)
 
--- src/value.rt:121:23
 value-of-enum-told : (t : ℕ) → value-of-lts.Need-enum-told (
   aux-at-reads.Asked,
   aux-at-reads.Learnt,
@@ -74,7 +70,6 @@ value-of-enum-told : (t : ℕ) → value-of-lts.Need-enum-told (
 ) (value-of-at t) value-of.Post
 value-of-enum-told t c = search needs
 
--- src/value.rt:122:19
 value-of-enum-known-s : (t : ℕ) → value-of-lts.Need-enum-known-s (
   aux-at-reads.Asked,
   aux-at-reads.Learnt,
@@ -89,7 +84,6 @@ value-of-enum-known-s : (t : ℕ) → value-of-lts.Need-enum-known-s (
 ) (value-of-at t) value-of.Post
 value-of-enum-known-s t c = search needs
 
--- src/value.rt:123:17
 value-of-value-of-requires : (t : ℕ) → value-of-lts.Need-value-of-requires (
   aux-at-reads.Asked,
   aux-at-reads.Learnt,
@@ -106,7 +100,6 @@ value-of-value-of-requires t c κs =
     let a = ask-left (c .before .before .before .before .before .before .before .before .before .before .pre .1) _ (sym (c .before .before .before .before .step-at .ensures) ∙ c .before .before .s .given .1) _ refl in
     (rw (c .before .before .before .before .before .before .before .before .before .before .pre .0) at (a .0), a .1)
 
--- src/value.rt:124:17
 value-of-value-of-requires-2 : (t : ℕ) → value-of-lts.Need-value-of-requires-2 (
   aux-at-reads.Asked,
   aux-at-reads.Learnt,
@@ -123,7 +116,6 @@ value-of-value-of-requires-2 t c κs =
     let a = ask-right (c .before .before .before .before .before .before .before .before .before .before .before .before .before .before .pre .1) _ (sym (c .before .before .before .before .before .before .before .before .step-at .ensures) ∙ c .before .before .before .before .before .before .s .given .1) _ (c .before .before .before .value-of .kept .1 .1 .0) in
     (rw (c .before .before .before .before .before .before .before .before .before .before .before .before .before .before .pre .0) at (a .0), a .1)
 
--- src/value.rt:125:17
 value-of-value-over-requires : (t : ℕ) → value-of-lts.Need-value-over-requires (
   aux-at-reads.Asked,
   aux-at-reads.Learnt,
@@ -138,7 +130,6 @@ value-of-value-over-requires : (t : ℕ) → value-of-lts.Need-value-over-requir
 ) (value-of-at t) value-of.Post
 value-of-value-over-requires t c κs = search needs
 
--- src/value.rt:126:13
 value-of-keep-requires : (t : ℕ) → value-of-lts.Need-keep-requires (
   aux-at-reads.Asked,
   aux-at-reads.Learnt,
@@ -158,7 +149,6 @@ value-of-keep-requires t c κs =
     let q = c .before .before .before .before .value-of2 .kept .1 .1 .0 in
     omega arith
 
--- src/value.rt:114:1
 value-of-same-length : (t : ℕ) → value-of-lts.Need-same-length (
   aux-at-reads.Asked,
   aux-at-reads.Learnt,
@@ -173,7 +163,6 @@ value-of-same-length : (t : ℕ) → value-of-lts.Need-same-length (
 ) (value-of-at t) value-of.Post
 value-of-same-length t c = search needs
 
--- src/value.rt:114:1
 value-of-returns : (t : ℕ) → value-of-lts.Need-returns (
   aux-at-reads.Asked,
   aux-at-reads.Learnt,
@@ -188,7 +177,6 @@ value-of-returns : (t : ℕ) → value-of-lts.Need-returns (
 ) (value-of-at t) value-of.Post
 value-of-returns t c = λ s. told-known firstWord _ _ _ _ _ (c .before .before .before .before .before .before .before .before .pre .1 .here) (c .before .before .before .aux-at .ensures) (sym (c .before .before .step-at .ensures) ∙ c .enum-told .given .1)
 
--- src/value.rt:114:1
 value-of-same-length-2 : (t : ℕ) → value-of-lts.Need-same-length-2 (
   aux-at-reads.Asked,
   aux-at-reads.Learnt,
@@ -203,7 +191,6 @@ value-of-same-length-2 : (t : ℕ) → value-of-lts.Need-same-length-2 (
 ) (value-of-at t) value-of.Post
 value-of-same-length-2 t c = c .before .before .keep .kept .0 ∙ c .before .before .before .before .before .before .before .value-of2 .kept .1 .1 .0 ∙ c .before .before .before .before .before .before .before .before .before .before .before .value-of .kept .1 .1 .0
 
--- src/value.rt:114:1
 value-of-returns-2 : (t : ℕ) → value-of-lts.Need-returns-2 (
   aux-at-reads.Asked,
   aux-at-reads.Learnt,

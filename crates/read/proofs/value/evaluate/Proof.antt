@@ -9,85 +9,64 @@ use mathlib.Core.Path.{sym, _∙_}
 use borrow.Author.Needs.{needs}
 use Rattle.read.proofs.value.evaluate.Statement.{statement}
 use Rattle.read.proofs.value.evaluate.Tie as tie
-use Rattle.read.proofs.value.evaluate.Reads as reads
-use Rattle.read.proofs.value.evaluate.Lts as lts
-use Rattle.circuit.proofs.check.check.Reads as check-reads
-use Rattle.read.proofs.table.bad_given.Reads as bad-given-reads
-use Rattle.read.proofs.table.bad_table.Reads as bad-table-reads
-use Rattle.read.proofs.value.value_at.Reads as value-at-reads
 
--- src/value.rt:168:18
 slice-aggregate-check : tie.Need-slice-aggregate-check
 slice-aggregate-check c = search needs
 
--- src/value.rt:168:30
 slice-aggregate-check-2 : tie.Need-slice-aggregate-check-2
 slice-aggregate-check-2 c = search needs
 
--- src/value.rt:168:9
 check-requires : tie.Need-check-requires
 check-requires c κs = search needs
 
--- src/value.rt:169:9
 returns : tie.Need-returns
 unfolding evaluateCall
 returns c = sym (reading-no-circuit (c .before .before .before .before .before .before .before .before .before .before .args .m .now) (c .before .before .before .before .before .before .before .before .before .before .args .i ∷ []) _ _ _ (refuses _ _ (c .before .before .before .check .ensures .told) (c .if1 .taken)))
 
--- src/value.rt:171:8
 shared-slice-read-if2 : tie.Need-shared-slice-read-if2
 shared-slice-read-if2 c = valid-length _ (accepts _ _ (c .before .before .before .before .check .ensures .told) (c .before .if1 .left))
 
--- src/value.rt:172:9
 returns-2 : tie.Need-returns-2
 unfolding evaluateCall
 returns-2 c = sym (reading-bad-id (c .before .before .before .before .before .before .before .before .before .before .before .before .args .m .now) (c .before .before .before .before .before .before .before .before .before .before .before .before .args .i ∷ []) _ _ _ (accepts _ _ (c .before .before .before .before .before .check .ensures .told) (c .before .before .if1 .left)) (bad-id-here (c .before .before .before .before .before .before .before .before .before .before .before .before .args .m .now) _ _ (c .if2 .taken)))
 
--- src/value.rt:174:21
 slice-aggregate-bad-table : tie.Need-slice-aggregate-bad-table
 slice-aggregate-bad-table c = search needs
 
--- src/value.rt:174:29
 slice-aggregate-bad-table-2 : tie.Need-slice-aggregate-bad-table-2
 slice-aggregate-bad-table-2 c = search needs
 
--- src/value.rt:174:8
 bad-table-requires : tie.Need-bad-table-requires
 bad-table-requires c κs = record { valid = accepts _ _ (c .before .before .before .before .before .before .before .check .ensures .told) (c .before .before .before .before .if1 .left); sorted = c .before .before .before .before .before .before .before .check .ensures .sorted (not-false _ (c .before .before .before .before .if1 .left)); order-room = omega (arith, c .before .before .before .before .before .before .before .check .kept .1 .0); ids = bad-id-next (c .before .before .before .before .before .before .before .before .before .before .before .before .before .before .args .m .now) _ _ (c .before .before .if2 .left) ∙ no-bad-id (c .before .before .before .before .before .before .before .before .before .before .before .before .before .before .args .m .now) }
 
--- src/value.rt:175:9
 returns-3 : tie.Need-returns-3
 unfolding evaluateCall
-returns-3 c = 
+returns-3 c =
     let v = accepts _ _ (c .before .before .before .before .before .before .before .before .before .check .ensures .told) (c .before .before .before .before .before .before .if1 .left) in
     let k = bad-id-next (c .before .before .before .before .before .before .before .before .before .before .before .before .before .before .before .before .args .m .now) (c .before .before .before .before .before .before .before .before .before .before .before .before .before .before .before .before .args .i) [] (c .before .before .before .before .if2 .left) ∙ no-bad-id (c .before .before .before .before .before .before .before .before .before .before .before .before .before .before .before .before .args .m .now) in
     sym (reading-refused (c .before .before .before .before .before .before .before .before .before .before .before .before .before .before .before .before .args .m .now) (c .before .before .before .before .before .before .before .before .before .before .before .before .before .before .before .before .args .i ∷ []) _ _ _ 14 v k (refusal-here 15 _ _ (sym (c .before .bad-table .ensures) ∙ c .if3 .taken)))
 
--- src/value.rt:177:8
 bad-given-requires : tie.Need-bad-given-requires
 bad-given-requires c κs = search needs
 
--- src/value.rt:178:9
 returns-4 : tie.Need-returns-4
 unfolding evaluateCall
-returns-4 c = 
+returns-4 c =
     let v = accepts _ _ (c .before .before .before .before .before .before .before .before .before .before .before .check .ensures .told) (c .before .before .before .before .before .before .before .before .if1 .left) in
     let k = bad-id-next (c .before .before .before .before .before .before .before .before .before .before .before .before .before .before .before .before .before .before .args .m .now) (c .before .before .before .before .before .before .before .before .before .before .before .before .before .before .before .before .before .before .args .i) [] (c .before .before .before .before .before .before .if2 .left) ∙ no-bad-id (c .before .before .before .before .before .before .before .before .before .before .before .before .before .before .before .before .before .before .args .m .now) in
     sym (reading-refused (c .before .before .before .before .before .before .before .before .before .before .before .before .before .before .before .before .before .before .args .m .now) (c .before .before .before .before .before .before .before .before .before .before .before .before .before .before .before .before .before .before .args .i ∷ []) _ _ _ 4 v k (refusal-next 15 _ _ (sym (c .before .before .before .bad-table .ensures) ∙ c .before .before .if3 .left) ∙ refusal-here 5 _ _ (sym (c .before .bad-given .ensures) ∙ c .if4 .taken)))
 
--- src/value.rt:180:30
 slice-aggregate-value-at : tie.Need-slice-aggregate-value-at
 slice-aggregate-value-at c = search needs
 
--- src/value.rt:180:18
 value-at-requires : tie.Need-value-at-requires
-value-at-requires c κs = 
+value-at-requires c κs =
     let v = accepts _ _ (c .before .before .before .before .before .before .before .before .before .before .before .before .check .ensures .told) (c .before .before .before .before .before .before .before .before .before .if1 .left) in
     (sorted-ranked _ _ _ v (c .before .before .before .before .before .before .before .before .before .before .before .before .check .ensures .sorted (not-false _ (c .before .before .before .before .before .before .before .before .before .if1 .left))), c .before .before .before .before .before .before .before .if2 .left)
 
--- src/value.rt:163:1
 returns-5 : tie.Need-returns-5
 unfolding evaluateCall
-returns-5 c = 
+returns-5 c =
     let v = accepts _ _ (c .before .before .before .before .before .before .before .before .before .before .before .before .before .check .ensures .told) (c .before .before .before .before .before .before .before .before .before .before .if1 .left) in
     let k = bad-id-next (c .before .before .before .before .before .before .before .before .before .before .before .before .before .before .before .before .before .before .before .before .args .m .now) (c .before .before .before .before .before .before .before .before .before .before .before .before .before .before .before .before .before .before .before .before .args .i) [] (c .before .before .before .before .before .before .before .before .if2 .left) ∙ no-bad-id (c .before .before .before .before .before .before .before .before .before .before .before .before .before .before .before .before .before .before .before .before .args .m .now) in
     rw (c .value-at .ensures) (sym (reading-accepted (c .before .before .before .before .before .before .before .before .before .before .before .before .before .before .before .before .before .before .before .before .args .m .now) (c .before .before .before .before .before .before .before .before .before .before .before .before .before .before .before .before .before .before .before .before .args .i ∷ []) _ _ _ v k (refusal-next 15 _ _ (sym (c .before .before .before .before .before .bad-table .ensures) ∙ c .before .before .before .before .if3 .left) ∙ refusal-next 5 _ _ (sym (c .before .before .before .bad-given .ensures) ∙ c .before .before .if4 .left) ∙ refusal-none)))

@@ -1,94 +1,69 @@
 use Rattle.read.proofs.Values.{second-half}
-use Rattle.read.specs.Calls.{assigned, nextRow}
-use mathlib.Core.Path.{sym, ap, _∙_}
+use Rattle.read.specs.Calls.{assigned}
 use borrow.Author.Needs.{needs}
 use Rattle.read.proofs.value.input_value.Statement.{statement}
 use Rattle.read.proofs.value.input_value.Tie as tie
-use Rattle.read.proofs.value.input_value.Reads as reads
-use Rattle.read.proofs.value.input_value.Lts as lts
-use Rattle.read.proofs.value.aux_at.Reads as aux-at-reads
-use Rattle.read.proofs.value.main_at.Reads as main-at-reads
 
--- src/value.rt:61:24
 enum-known-q : tie.Need-enum-known-q
 enum-known-q c = search needs
 
--- src/value.rt:61:30
 main-at-requires : tie.Need-main-at-requires
 main-at-requires c κs = search needs
 
--- src/value.rt:62:23
 enum-known-q-2 : tie.Need-enum-known-q-2
 enum-known-q-2 c = search needs
 
--- src/value.rt:62:29
 aux-at-requires : tie.Need-aux-at-requires
 aux-at-requires c κs = search needs
 
--- src/value.rt:63:28
 enum-known-q-3 : tie.Need-enum-known-q-3
 enum-known-q-3 c = search needs
 
--- src/value.rt:63:42
 mul-main-at : tie.Need-mul-main-at
 mul-main-at c = search needs
 
--- src/value.rt:63:42
 sub-main-at : tie.Need-sub-main-at
 sub-main-at c = search needs
 
--- src/value.rt:63:42
 part-main-at-start : tie.Need-part-main-at-start
 part-main-at-start c = search needs
 
--- src/value.rt:63:42
 part-main-at-end : tie.Need-part-main-at-end
 part-main-at-end c = search needs
 
--- src/value.rt:63:34
 main-at-requires-2 : tie.Need-main-at-requires-2
 main-at-requires-2 c κs = search needs
 
--- src/value.rt:64:27
 enum-known-q-4 : tie.Need-enum-known-q-4
 enum-known-q-4 c = search needs
 
--- src/value.rt:64:40
 mul-aux-at : tie.Need-mul-aux-at
 mul-aux-at c = search needs
 
--- src/value.rt:64:40
 sub-aux-at : tie.Need-sub-aux-at
 sub-aux-at c = search needs
 
--- src/value.rt:64:40
 part-aux-at-start : tie.Need-part-aux-at-start
 part-aux-at-start c = search needs
 
--- src/value.rt:64:40
 part-aux-at-end : tie.Need-part-aux-at-end
 part-aux-at-end c = search needs
 
--- src/value.rt:64:33
 aux-at-requires-2 : tie.Need-aux-at-requires-2
 aux-at-requires-2 c κs = search needs
 
--- src/value.rt:55:1
 returns : tie.Need-returns
 unfolding assigned
 returns c = rw (c .before .before .q .given .1) (c .main-at .ensures)
 
--- src/value.rt:55:1
 returns-2 : tie.Need-returns-2
 unfolding assigned
 returns-2 c = rw (c .before .before .q2 .given .1) (c .aux-at .ensures)
 
--- src/value.rt:55:1
 returns-3 : tie.Need-returns-3
 unfolding assigned
 returns-3 c = rw (c .before .before .before .q3 .given .1) (rw second-half at (c .main-at2 .ensures))
 
--- src/value.rt:55:1
 returns-4 : tie.Need-returns-4
 unfolding assigned
 returns-4 c = rw (c .before .before .before .q4 .given .1) (rw second-half at (c .aux-at2 .ensures))

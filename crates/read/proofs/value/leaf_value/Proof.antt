@@ -2,73 +2,54 @@ use mathlib.Core.List.{[]}
 use Rattle.read.proofs.Values.{input-tables}
 use Rattle.read.specs.Values.{valueEntry}
 use Rattle.read.specs.Calls.{assigned}
-use mathlib.Core.Path.{sym, ap, _∙_}
+use mathlib.Core.Path.{_∙_}
 use borrow.Author.Needs.{needs}
 use Rattle.read.proofs.value.leaf_value.Statement.{statement}
 use Rattle.read.proofs.value.leaf_value.Tie as tie
-use Rattle.read.proofs.value.leaf_value.Reads as reads
-use Rattle.read.proofs.value.leaf_value.Lts as lts
-use Rattle.field.proofs.extension.lift.Reads as lift-reads
-use Rattle.read.proofs.value.aux_at.Reads as aux-at-reads
-use Rattle.read.proofs.value.input_value.Reads as input-value-reads
 
--- src/value.rt:73:26
 enum-known-e : tie.Need-enum-known-e
 enum-known-e c = search needs
 
--- src/value.rt:73:32
 lift-requires : tie.Need-lift-requires
 lift-requires c κs = search needs
 
--- src/value.rt:74:31
 enum-known-e-2 : tie.Need-enum-known-e-2
 enum-known-e-2 c = search needs
 
--- src/value.rt:75:31
 enum-known-e-3 : tie.Need-enum-known-e-3
 enum-known-e-3 c = search needs
 
--- src/value.rt:75:37
 aux-at-requires : tie.Need-aux-at-requires
 aux-at-requires c κs = search needs
 
--- src/value.rt:76:43
 enum-told : tie.Need-enum-told
 enum-told c = search needs
 
--- src/value.rt:76:43
 lift-requires-2 : tie.Need-lift-requires-2
 lift-requires-2 c κs = search needs
 
--- src/value.rt:77:27
 enum-known-e-4 : tie.Need-enum-known-e-4
 enum-known-e-4 c = search needs
 
--- src/value.rt:77:33
 input-value-requires : tie.Need-input-value-requires
 input-value-requires c κs = search needs
 
--- src/value.rt:69:1
 returns : tie.Need-returns
 unfolding valueEntry
 returns c = rw (c .before .before .e .given .1) (c .lift .ensures)
 
--- src/value.rt:69:1
 returns-2 : tie.Need-returns-2
 unfolding valueEntry
 returns-2 c = rw (c .before .e2 .given .1)
 
--- src/value.rt:69:1
 returns-3 : tie.Need-returns-3
 unfolding valueEntry assigned
 returns-3 c = rw (c .before .before .e3 .given .1) (c .aux-at .ensures)
 
--- src/value.rt:69:1
 returns-4 : tie.Need-returns-4
 unfolding valueEntry
 returns-4 c = rw (c .before .enum-told .given .1) (c .lift2 .ensures)
 
--- src/value.rt:69:1
 returns-5 : tie.Need-returns-5
 unfolding valueEntry
 returns-5 c = rw (c .before .before .e4 .given .1) (c .input-value .ensures ∙ input-tables (c .before .before .before .before .before .before .before .args .main .now) (c .before .before .before .before .before .before .before .args .aux .now) [] (c .before .before .before .before .before .before .before .args .challenges .now) (c .before .before .e4 .given .0 .0))

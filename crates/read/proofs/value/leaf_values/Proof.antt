@@ -4,17 +4,12 @@ use Rattle.read.specs.Values.{valueStart, valueEntry}
 use Rattle.read.specs.Calls.{tripleAt, assigned}
 use Rattle.circuit.proofs.Valid.{valid-length, valid-fits}
 use Rattle.circuit.specs.Words.{used}
-use mathlib.Core.Path.{refl, sym, ap, _∙_}
+use mathlib.Core.Path.{refl, ap, _∙_}
 use Prim.Native.Nat.{_-_}
 use native.Mathlib.Omega.{arith}
 use borrow.Author.Needs.{needs}
 use Rattle.read.proofs.value.leaf_values.Statement.{statement}
 use Rattle.read.proofs.value.leaf_values.Tie as tie
-use Rattle.read.proofs.value.leaf_values.Reads as reads
-use Rattle.read.proofs.value.leaf_values.Lts as lts
-use Rattle.circuit.proofs.place.expression_at.Reads as expression-at-reads
-use Rattle.read.proofs.value.keep.Reads as keep-reads
-use Rattle.read.proofs.value.leaf_value.Reads as leaf-value-reads
 
 abbrev Inv-loop : tie.InvT-loop
 Inv-loop m table₀ main aux challenges n i₀ table i = Filling m table₀ table (tripleAt table) (valueStart (assigned main aux challenges) m) i
@@ -22,43 +17,33 @@ Inv-loop m table₀ main aux challenges n i₀ table i = Filling m table₀ tabl
 abbrev μ-loop : tie.MeasureT-loop
 μ-loop m table₀ main aux challenges n i₀ table i = used m - i
 
--- src/value.rt:95:13
 shared-slice-read-n : tie.Need-shared-slice-read-n Inv-loop μ-loop
 shared-slice-read-n c = valid-length _ (c .before .before .before .before .before .before .pre .valid)
 
--- src/value.rt:97:5
 loop-holds : tie.Need-loop-holds Inv-loop μ-loop
 loop-holds c = filling-start _ _ _ _ _ 0 refl
 
--- src/value.rt:98:35
 expression-at-requires : tie.Need-expression-at-requires Inv-loop μ-loop
 expression-at-requires c κs = valid-fits _ (c .before .before .before .before .before .before .before .before .before .pre .valid) _ (c .before .loop-test .taken)
 
--- src/value.rt:98:24
 leaf-value-requires : tie.Need-leaf-value-requires Inv-loop μ-loop
 leaf-value-requires c κs = search needs
 
--- src/value.rt:98:9
 keep-requires : tie.Need-keep-requires Inv-loop μ-loop
 keep-requires c κs = let r = c .before .before .before .before .before .before .before .before .before .before .before .pre .room in omega arith
 
--- src/value.rt:99:9
 add-i : tie.Need-add-i Inv-loop μ-loop
 add-i c = search needs
 
--- src/value.rt:97:5
 loop-less : tie.Need-loop-less Inv-loop μ-loop
 loop-less c = omega arith
 
--- src/value.rt:97:5
 loop-again : tie.Need-loop-again Inv-loop μ-loop
 loop-again c = rw (c .before .before .keep .ensures) (filling-triple _ _ _ (valueStart (assigned _ _ _) _) _ _ (c .before .before .before .before .before .before .before .before .before .before .before .before .before .before .pre) (c .before .before .before .before .before .before .before .loop .inv) (c .before .before .before .before .before .before .loop-test .taken) (c .before .before .before .leaf-value .ensures ∙ ap (valueEntry (assigned _ _ _)) (c .before .before .before .before .expression-at .ensures)))
 
--- src/value.rt:91:1
 same-length : tie.Need-same-length Inv-loop μ-loop
 same-length c = c .before .loop .inv .same
 
--- src/value.rt:91:1
 returns : tie.Need-returns Inv-loop μ-loop
 returns c = filling-done _ _ _ _ _ _ (c .before .loop .inv) (c .loop-test .left)
 

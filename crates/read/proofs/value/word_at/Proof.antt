@@ -3,22 +3,16 @@ use mathlib.Core.Path.{sym}
 use borrow.Author.Needs.{needs}
 use Rattle.read.proofs.value.word_at.Statement.{statement}
 use Rattle.read.proofs.value.word_at.Tie as tie
-use Rattle.read.proofs.value.word_at.Reads as reads
-use Rattle.read.proofs.value.word_at.Lts as lts
 
--- src/value.rt:27:16
 mul-result : tie.Need-mul-result
 mul-result c = search needs
 
--- src/value.rt:27:16
 shared-slice-read-result : tie.Need-shared-slice-read-result
 shared-slice-read-result c = search needs
 
--- src/value.rt:27:9
 returns : tie.Need-returns
 returns c = search needs
 
--- src/value.rt:23:1
 returns-2 : tie.Need-returns-2
 returns-2 c = sym (List·getD-eq-default (c .before .args .row .now) 0 (c .if1 .left))
 

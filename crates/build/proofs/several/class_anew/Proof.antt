@@ -1,0 +1,60 @@
+use Rattle.circuit.proofs.Valid.{valid-header, header-top}
+use Rattle.build.proofs.Saving.{fillable}
+use borrow.Author.Needs.{needs}
+use Rattle.build.proofs.several.class_anew.Statement.{statement}
+use Rattle.build.proofs.several.class_anew.Tie as tie
+
+-- src/several.rt:63:14
+slice-aggregate-check : tie.Need-slice-aggregate-check
+slice-aggregate-check c = search needs
+
+-- src/several.rt:63:26
+slice-aggregate-check-2 : tie.Need-slice-aggregate-check-2
+slice-aggregate-check-2 c = search needs
+
+-- src/several.rt:63:5
+check-requires : tie.Need-check-requires
+check-requires c κs = search needs
+
+-- src/several.rt:64:21
+slice-aggregate-class-tables : tie.Need-slice-aggregate-class-tables
+slice-aggregate-class-tables c = search needs
+
+-- src/several.rt:64:29
+slice-aggregate-class-tables-2 : tie.Need-slice-aggregate-class-tables-2
+slice-aggregate-class-tables-2 c = search needs
+
+-- src/several.rt:64:5
+class-tables-requires : tie.Need-class-tables-requires
+class-tables-requires c κs = fillable _ _ _ _ _ _ _ (c .before .before .before .before .before .before .before .before .before .before .before .before .before .before .pre) (c .before .before .before .before .before .before .before .check .ensures) (search needs) (header-top _ (valid-header _ (c .before .before .before .before .before .before .before .before .before .before .before .before .before .before .pre .circuit)))
+
+-- src/several.rt:57:1
+same-length : tie.Need-same-length
+same-length c = search needs
+
+-- src/several.rt:57:1
+same-length-2 : tie.Need-same-length-2
+same-length-2 c = search needs
+
+-- src/several.rt:57:1
+same-length-3 : tie.Need-same-length-3
+same-length-3 c = search needs
+
+-- src/several.rt:57:1
+returns : tie.Need-returns
+returns c = search needs
+
+pub class-anew-spec : {M : Type 1} → statement M
+class-anew-spec =
+    tie.close
+    (tie.spec
+    slice-aggregate-check
+    slice-aggregate-check-2
+    check-requires
+    slice-aggregate-class-tables
+    slice-aggregate-class-tables-2
+    class-tables-requires
+    same-length
+    same-length-2
+    same-length-3
+    returns)
