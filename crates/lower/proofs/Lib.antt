@@ -32,4 +32,6 @@ pub mod Falls
 pub mod Surveys
 pub mod Refuses
 pub mod Along
+pub mod Substitution
 pub mod Begins
+pub mod Permits

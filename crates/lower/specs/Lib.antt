@@ -9,3 +9,4 @@ pub mod Examples
 pub mod Tables
 pub mod Survey
 pub mod Refusing
+pub mod Substituting

@@ -3,6 +3,7 @@ pub mod choose;
 pub mod next;
 pub mod redirect;
 pub mod refuse;
+pub mod substitute;
 pub mod tests;
 
 // How many main and auxiliary constraints a lowering added, or the number of its refusal.
