@@ -6,3 +6,5 @@ pub mod Runs
 pub mod Saving
 pub mod Undoing
 pub mod Endings
+pub mod Built
+pub mod Once

@@ -23,11 +23,11 @@ use Rattle.build.specs.Inner.{Buildable, Makable, Operable, Summable, Ta
 use Rattle.build.proofs.Growing.{Grown, still, grown-used, grown-then, grown-kept, find-grows, operate-grows, negate-grows, sum-grows}
 
 -- FULL as a fact
-full-over : (m : List ℕ) (b : Built) → full m b ≡ true → limit m < used (b .circuit)
+pub full-over : (m : List ℕ) (b : Built) → full m b ≡ true → limit m < used (b .circuit)
 unfolding full
 full-over m b h = ltb-true (limit m) (used (b .circuit)) h
 
-full-not : (m : List ℕ) (b : Built) → full m b ≡ false → used (b .circuit) ≤ limit m
+pub full-not : (m : List ℕ) (b : Built) → full m b ≡ false → used (b .circuit) ≤ limit m
 unfolding full
 full-not m b h = ltb-false (limit m) (used (b .circuit)) h
 
@@ -83,34 +83,34 @@ module _ (m : List ℕ) (a : ℕ) where
     pub negate-operable : a < used m → Operable m₁ num₁ t₁ least₁ i a
     negate-operable l = record { buildable = s .buildable; left = s .below; right = rw (s .after) (still-below (find-grows m (Base minusOne) .grown) a l) }
 
-    pub negate-then : (r : Made) (m₂ num₂ t₂ least₂ : List ℕ) → Stepped m₁ (operate m₁ Multiply i a) r m₂ num₂ t₂ least₂ → Tried 2 m (negated m a) r m₂ num₂ t₂ least₂
+    pub negate-then : (r : Made) (m₂ num₂ t₂ least₂ : List ℕ) → Stepped m₁ (operate m₁ Multiply i a) r m₂ num₂ t₂ least₂ → Tried 1 m (negated m a) r m₂ num₂ t₂ least₂
     unfolding negated
     negate-then r m₂ num₂ t₂ least₂ h =
         let e : operate m₁ Multiply i a ≡ negated m a = rw (s .after, s .id) in
         let g = find-grows m (Base minusOne) in
         let f = g .few in
-        then-step 2 m (findOrMake m (Base minusOne)) (g .grown) (omega arith) i m₁ num₁ t₁ least₁ s (negated m a) r m₂ num₂ t₂ least₂ (rw e at h)
+        then-step 1 m (findOrMake m (Base minusOne)) (g .grown) (omega arith) i m₁ num₁ t₁ least₁ s (negated m a) r m₂ num₂ t₂ least₂ (rw e at h)
 
-  pub negate-stops : (m₁ num t least : List ℕ) → used m ≤ limit m → Stopped (Unchanged m m₁ num t least) m (findOrMake m (Base minusOne)) → Tried 2 m (negated m a) Full m₁ num t least
+  pub negate-stops : (m₁ num t least : List ℕ) → used m ≤ limit m → Stopped (Unchanged m m₁ num t least) m (findOrMake m (Base minusOne)) → Tried 1 m (negated m a) Full m₁ num t least
   unfolding negated
   negate-stops m₁ num t least u s =
       let b : Built = findOrMake m (Base minusOne) in
-      stops-early m b (negated m a) m₁ num t least s (grown-used (operate-grows (b .circuit) Multiply (b .id) a .grown)) (λ w. rw (w .same) (kept-still 2 m u))
+      stops-early m b (negated m a) m₁ num t least s (grown-used (operate-grows (b .circuit) Multiply (b .id) a .grown)) (λ w. rw (w .same) (kept-still 1 m u))
 
 module _ (m : List ℕ) (a b : ℕ) where
   module _ (i : ℕ) (m₁ num₁ t₁ least₁ : List ℕ) (s : Taken m (negated m b) i m₁ num₁ t₁ least₁) where
     pub subtract-operable : a < used m → Operable m₁ num₁ t₁ least₁ a i
     subtract-operable l = record { buildable = s .buildable; left = rw (s .after) (still-below (negate-grows m b .grown) a l); right = s .below }
 
-    pub subtract-then : (r : Made) (m₂ num₂ t₂ least₂ : List ℕ) → Stepped m₁ (operate m₁ Add a i) r m₂ num₂ t₂ least₂ → Tried 3 m (subtracted m a b) r m₂ num₂ t₂ least₂
+    pub subtract-then : (r : Made) (m₂ num₂ t₂ least₂ : List ℕ) → Stepped m₁ (operate m₁ Add a i) r m₂ num₂ t₂ least₂ → Tried 2 m (subtracted m a b) r m₂ num₂ t₂ least₂
     unfolding subtracted
     subtract-then r m₂ num₂ t₂ least₂ h =
         let e : operate m₁ Add a i ≡ subtracted m a b = rw (s .after, s .id) in
         let g = negate-grows m b in
         let f = g .few in
-        then-step 3 m (negated m b) (g .grown) (omega arith) i m₁ num₁ t₁ least₁ s (subtracted m a b) r m₂ num₂ t₂ least₂ (rw e at h)
+        then-step 2 m (negated m b) (g .grown) (omega arith) i m₁ num₁ t₁ least₁ s (subtracted m a b) r m₂ num₂ t₂ least₂ (rw e at h)
 
-  pub subtract-stops : (m₁ num t least : List ℕ) → Stopped (Kept 2 m m₁) m (negated m b) → Tried 3 m (subtracted m a b) Full m₁ num t least
+  pub subtract-stops : (m₁ num t least : List ℕ) → Stopped (Kept 1 m m₁) m (negated m b) → Tried 2 m (subtracted m a b) Full m₁ num t least
   unfolding subtracted
   subtract-stops m₁ num t least s =
       let n : Built = negated m b in

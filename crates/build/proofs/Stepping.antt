@@ -1,5 +1,5 @@
 -- The laws of one step: a node that is found or made, in a circuit whose tables fit. Assumes nothing.
-use Prim.Native.Nat.{ℕ, _<_, _≤_}
+use Prim.Native.Nat.{ℕ, _+_, _<_}
 use mathlib.Core.Path.{_≡_, refl, sym, ap, _∙_}
 use mathlib.Core.Bool.{Bool, true, false, _&&_}
 use mathlib.Core.Option.{Option, none, some}
@@ -70,7 +70,7 @@ operands-good m (Input q) h = refl
 -- a node made
 
 module _ (m num t least : List ℕ) (e : Expression) (k : Makable m num t least e) where
-  pub no-place : limit m ≤ used m → Stepped m (built (made m e) (used m)) Full m num t least
+  pub no-place : limit m < used m + 1 → Stepped m (built (made m e) (used m)) Full m num t least
   unfolding full
   no-place h = record {
     told = record {
@@ -142,7 +142,7 @@ one-of : (n i : ℕ) (b : Bool) (j : ℕ) (x : Option ℕ) → j < n → (x ≡ 
 one-of n i true j x l f h = let q : j ≡ i = cc in rw q at l
 one-of n i false j x l f h = f h
 
-simple-below : (m : List ℕ) (o : Op) (l r : ℕ) → l < used m → r < used m → (i : ℕ) → simplified m o l r ≡ some i → i < used m
+pub simple-below : (m : List ℕ) (o : Op) (l r : ℕ) → l < used m → r < used m → (i : ℕ) → simplified m o l r ≡ some i → i < used m
 unfolding simplified
 simple-below m Add l r a b i h =
     one-of (used m) i (isConstant 0 m r) l _ a (one-of (used m) i (isConstant 0 m l) r none b (λ p. absurd (let z : _≡_ {A = ℕ} 0 1 = cc in omega arith))) h
@@ -153,7 +153,7 @@ simple-below m Multiply l r a b i h =
     (one-of (used m) i (isConstant 0 m l) l none a (λ p. absurd (let z : _≡_ {A = ℕ} 0 1 = cc in omega arith)))))
     h
 
-good-operation : (m : List ℕ) (o : Op) (l r : ℕ) → l < used m → r < used m → badExpression m (Operation o l r) ≡ false
+pub good-operation : (m : List ℕ) (o : Op) (l r : ℕ) → l < used m → r < used m → badExpression m (Operation o l r) ≡ false
 unfolding badExpression
 good-operation m o l r a b = or-false (leb (used m) l) (leb (used m) r) (lt-leb (used m) l a) (lt-leb (used m) r b)
 
@@ -199,7 +199,7 @@ constant-good m x c = go (unlifts x) refl
     go true e = lt-leb p (x .c0) (c .below0)
     go false e = rw (lt-leb p (x .c0) (c .below0), lt-leb p (x .c1) (c .below1), lt-leb p (x .c2) (c .below2), e)
 
-apply-canonical : (o : Op) (x y : Triple) → Canonical (apply o x y)
+pub apply-canonical : (o : Op) (x y : Triple) → Canonical (apply o x y)
 apply-canonical Add x y = canonical-plus x y
 apply-canonical Multiply x y = canonical-times x y
 

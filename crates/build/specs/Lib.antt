@@ -6,3 +6,4 @@ pub mod Examples
 pub mod Inner
 pub mod Saved
 pub mod Answers
+pub mod Results

@@ -11,12 +11,9 @@ use circuit::place::HEADER;
 use circuit::place::PLACE;
 use classes::find::class_tables;
 ghost use mathlib.Core.Path.{_≡_};
-ghost use mathlib.Core.Bool.{false};
-ghost use mathlib.Core.List.{[], _∷_};
-ghost use Prim.Native.Nat.{_+_, _*_, _<_, _≤_};
+ghost use Prim.Native.Nat.{_≤_};
 ghost use lib.ListN.{length};
 ghost use Rattle.circuit.specs.Words.{used, offset};
-ghost use Rattle.circuit.specs.NotCircuit.{notCircuit};
 ghost use Rattle.build.specs.Building.{negated, subtracted, summed};
 ghost use Rattle.build.specs.Inner.{Operable, Summable, Buildable, Step, Stepped, Tried};
 ghost use Rattle.build.specs.Saved.{Saved, Restorable, Restored, Classable};
@@ -66,7 +63,7 @@ pub fn class_anew(m: &[u64], numbers: &mut [u64], table: &mut [u64], least: &mut
     class_tables(m, &order, &rank, numbers, table, least);
 }
 
-// (-1)·a: the leaf -1 is made first, even where nothing else is.
+// (-1)·a: the leaf -1 is made first, even where nothing else is. It may have been made when there is no room for the product.
 fn try_negate(
     m: &mut [u64],
     numbers: &mut [u64],
@@ -75,7 +72,7 @@ fn try_negate(
     a: u64,
 ) -> Made
     requires { ⌜ Operable (now m) (now numbers) (now table) (now least) a a ⌝ }
-    ensures { λ r. ⌜ Tried 2 (now (m .entry)) (negated (now (m .entry)) a) r (now (m .exit)) (now (numbers .exit)) (now (table .exit)) (now (least .exit)) ⌝ }
+    ensures { λ r. ⌜ Tried 1 (now (m .entry)) (negated (now (m .entry)) a) r (now (m .exit)) (now (numbers .exit)) (now (table .exit)) (now (least .exit)) ⌝ }
 {
     let minus = find_or_make(m, numbers, table, least, Expression::Base(MINUS_ONE));
     match minus {
@@ -84,7 +81,7 @@ fn try_negate(
     }
 }
 
-// a + (-b), -b first.
+// a + (-b), -b first. Two nodes may have been made when there is no room for the sum.
 fn try_subtract(
     m: &mut [u64],
     numbers: &mut [u64],
@@ -94,7 +91,7 @@ fn try_subtract(
     b: u64,
 ) -> Made
     requires { ⌜ Operable (now m) (now numbers) (now table) (now least) a b ⌝ }
-    ensures { λ r. ⌜ Tried 3 (now (m .entry)) (subtracted (now (m .entry)) a b) r (now (m .exit)) (now (numbers .exit)) (now (table .exit)) (now (least .exit)) ⌝ }
+    ensures { λ r. ⌜ Tried 2 (now (m .entry)) (subtracted (now (m .entry)) a b) r (now (m .exit)) (now (numbers .exit)) (now (table .exit)) (now (least .exit)) ⌝ }
 {
     let minus = try_negate(m, numbers, table, least, b);
     match minus {
@@ -143,7 +140,7 @@ pub fn negate(
     ensures { λ r. ⌜ Stepped (now (m .entry)) (negated (now (m .entry)) a) r (now (m .exit)) (now (numbers .exit)) (now (table .exit)) (now (least .exit)) ⌝ }
 {
     let u = m[1];
-    let mut saved = [0u64; 12];
+    let mut saved = [0u64; PLACE];
     save(m, &mut saved);
     let made = try_negate(m, numbers, table, least, a);
     match made {
@@ -169,7 +166,7 @@ pub fn subtract(
     ensures { λ r. ⌜ Stepped (now (m .entry)) (subtracted (now (m .entry)) a b) r (now (m .exit)) (now (numbers .exit)) (now (table .exit)) (now (least .exit)) ⌝ }
 {
     let u = m[1];
-    let mut saved = [0u64; 18];
+    let mut saved = [0u64; 12];
     save(m, &mut saved);
     let made = try_subtract(m, numbers, table, least, a, b);
     match made {

@@ -35,7 +35,8 @@ fn make_node(
     ensures { λ r. ⌜ Stepped (now (m .entry)) (built (made (now (m .entry)) e) (used (now (m .entry)))) r (now (m .exit)) (now (numbers .exit)) (now (table .exit)) (now (least .exit)) ⌝ }
 {
     let u = m[1];
-    if limit_of(m) <= u {
+    let needed = u + 1;
+    if limit_of(m) < needed {
         return Made::Full;
     }
     make(m, e);
