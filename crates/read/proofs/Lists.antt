@@ -9,8 +9,11 @@ use native.Mathlib.Omega.{arith}
 use lib.ListN.{length, getD, take}
 use lib.Seq.{take-suc, take-all}
 use Rattle.circuit.specs.Lists.{In, any, upTo}
+use Rattle.circuit.specs.Words.{used}
+use Rattle.circuit.specs.NotCircuit.{badId}
 use Rattle.circuit.proofs.Tests.{or-false, or-right, any-more}
 use Rattle.circuit.proofs.Lists.{or-left}
+use Rattle.circuit.proofs.Refusals.{no-bad-id, bad-id-next}
 
 pub any-append : (p : ℕ → Bool) (xs ys : List ℕ) → any p (xs ++ ys) ≡ (any p xs || any p ys)
 unfolding any
@@ -63,3 +66,7 @@ pub in-at : (xs : List ℕ) (k : ℕ) → k < length xs → In (getD xs k 0) xs
 in-at [] k h = absurd (omega arith)
 in-at (x ∷ xs) zero h = inl refl
 in-at (x ∷ xs) (suc k) h = inr (in-at xs k (omega arith))
+
+-- one id
+pub good-id : (m : List ℕ) (i : ℕ) → i < used m → badId m (i ∷ []) ≡ false
+good-id m i h = bad-id-next m i [] h ∙ no-bad-id m

@@ -66,18 +66,18 @@ module _ {k : ℕ} {m rank table : List ℕ} {i : ℕ} (q : Asked k m rank table
 
 module _ {A : Type 0} (word : A → ℕ) (m : List ℕ) where
   -- an entry that is known
-  pub told-known : (entry answer : ℕ → A) (i : ℕ) (x : A) → i < used m → x ≡ entry i → stepAt m i (word x) ≡ Stay → Right word m entry answer → Told word m entry entry answer i x
+  pub told-known : (entry answer : ℕ → A) (i : ℕ) (x : A) → i < used m → x ≡ entry i → stepAt m i (word x) ≡ Stay → Right word m entry answer → Told word m entry entry answer i (entry i)
   told-known entry answer i x h p s q =
       let e = q .told i h (ap (λ (y : A). stepAt m i (word y)) (sym p) ∙ s) in
-      record { answered = p ∙ e; here = e; stays = λ j k. k; right = q }
+      record { answered = e; here = e; stays = λ j k. k; right = q }
 
   -- an entry that becomes known, after both operands
-  module _ (entry₀ entry₁ entry₂ entry₃ answer : ℕ → A) (i l r : ℕ) (a b x : A) (left : Right word m entry₀ answer → Told word m entry₀ entry₁ answer l a) (right : Right word m entry₁ answer → Told word m entry₁ entry₂ answer r b) (same : entry₃ i ≡ x) (other : (j : ℕ) → j ≢ i → entry₃ j ≡ entry₂ j) (join : Op → A → A → A) (o : Op) (made : x ≡ join o a b) (how : answer i ≡ join o (answer l) (answer r)) where
+  module _ (entry₀ entry₁ entry₂ entry₃ answer : ℕ → A) (i l r : ℕ) (a₀ b₀ a b x : A) (left : Right word m entry₀ answer → Told word m entry₀ entry₁ answer l a₀) (right : Right word m entry₁ answer → Told word m entry₁ entry₂ answer r b₀) (is : Told word m entry₀ entry₁ answer l a₀ → Told word m entry₁ entry₂ answer r b₀ → (a ≡ answer l) × (b ≡ answer r)) (same : entry₃ i ≡ x) (other : (j : ℕ) → j ≢ i → entry₃ j ≡ entry₂ j) (join : Op → A → A → A) (o : Op) (made : x ≡ join o a b) (how : answer i ≡ join o (answer l) (answer r)) where
     pub told-two : Right word m entry₀ answer → Told word m entry₀ entry₃ answer i x
     told-two q =
         let t = left q in
         let u = right (t .right) in
-        let e = made ∙ ap (λ (y : A). join o y b) (t .answered) ∙ ap (join o (answer l)) (u .answered) ∙ sym how in
+        let e = made ∙ ap (λ (y : A). join o y b) (is t u .0) ∙ ap (join o (answer l)) (is t u .1) ∙ sym how in
         record {
           answered = e;
           here = same ∙ e;
@@ -95,7 +95,7 @@ module _ (join : Op → ℕ → ℕ → ℕ) (answer : ℕ → ℕ) {m rank tabl
   told-word left right made =
       let h = q .here in
       let f = q .room in
-      told-two itself m (at table₀) (at table₁) (at table₂) (at (set table₂ i x)) answer i l r a b x left right (getD-set-same table₂ i x 0 (omega arith)) (λ j n. getD-set-other table₂ i j x 0 n) join o made (law i h o l r (two-operation m i w o l r s))
+      told-two itself m (at table₀) (at table₁) (at table₂) (at (set table₂ i x)) answer i l r a b a b x left right (λ t u. (t .answered, u .answered)) (getD-set-same table₂ i x 0 (omega arith)) (λ j n. getD-set-other table₂ i j x 0 n) join o made (law i h o l r (two-operation m i w o l r s))
 
 -- an operation's answer
 module _ {A : Type 0} (reading : Tree → A) (own : Leaf → A) (join : Op → A → A → A) (f : Folds reading own join) (m : List ℕ) (valid : notCircuit m ≡ false) (i : ℕ) (here : i < used m) where

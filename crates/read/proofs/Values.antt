@@ -1,6 +1,6 @@
 -- Values in a table of triples. Assumes nothing.
-use Prim.Native.Nat.{ℕ, _+_, _-_, _*_, _/_, _<_}
-use mathlib.Core.Path.{_≡_, refl, _∙_}
+use Prim.Native.Nat.{ℕ, _+_, _-_, _*_, _/_, _<_, _≤_}
+use mathlib.Core.Path.{_≡_, refl, ap, _∙_}
 use mathlib.Core.Logic.{_≢_}
 use mathlib.Core.Bool.{false}
 use mathlib.Core.List.{List}
@@ -83,10 +83,28 @@ module _ (m table₀ table : List ℕ) (answer : ℕ → Triple) (i : ℕ) (x : 
       let s = f .same in
       filling-next m table₀ table (tripleAt table) answer i (putTriple table i x) (tripleAt (putTriple table i x)) f h (put-length table i x) (put-here table i x (omega arith) ∙ e) (λ j l p. put-other table i x j (omega arith) ∙ p)
 
--- the entry that becomes known is stored
-module _ (s : Assignment) {m rank table₀ : List ℕ} (table₁ table₂ table₃ : List ℕ) {i : ℕ} (w : ℕ) {l r : ℕ} (a b x : Triple) {o : Op} (q : Asked 3 m rank table₀ i) (e : stepAt m i w ≡ Two o l r) (same₁ : length table₁ ≡ length table₀) (same₂ : length table₂ ≡ length table₁) (put : table₃ ≡ putTriple table₂ i x) where
-  pub told-triple : (Right firstWord m (tripleAt table₀) (valueAt s m) → Told firstWord m (tripleAt table₀) (tripleAt table₁) (valueAt s m) l a) → (Right firstWord m (tripleAt table₁) (valueAt s m) → Told firstWord m (tripleAt table₁) (tripleAt table₂) (valueAt s m) r b) → x ≡ apply o a b → Right firstWord m (tripleAt table₀) (valueAt s m) → Told firstWord m (tripleAt table₀) (tripleAt table₃) (valueAt s m) i x
+-- the entry that becomes known is stored; the operands' values are read from theirs
+module _ (s : Assignment) {m rank table₀ : List ℕ} (table₁ table₂ table₃ : List ℕ) {i : ℕ} (w : ℕ) {l r : ℕ} (a b x : Triple) {o : Op} (q : Asked 3 m rank table₀ i) (e : stepAt m i w ≡ Two o l r) (same₁ : length table₁ ≡ length table₀) (same₂ : length table₂ ≡ length table₁) (read-left : a ≡ tripleAt table₂ l) (read-right : b ≡ tripleAt table₂ r) (put : table₃ ≡ putTriple table₂ i x) where
+  pub told-triple : (Right firstWord m (tripleAt table₀) (valueAt s m) → Told firstWord m (tripleAt table₀) (tripleAt table₁) (valueAt s m) l (tripleAt table₁ l)) → (Right firstWord m (tripleAt table₁) (valueAt s m) → Told firstWord m (tripleAt table₁) (tripleAt table₂) (valueAt s m) r (tripleAt table₂ r)) → x ≡ apply o a b → Right firstWord m (tripleAt table₀) (valueAt s m) → Told firstWord m (tripleAt table₀) (tripleAt table₃) (valueAt s m) i (tripleAt table₃ i)
   told-triple left right made =
       let h = q .here in
       let f = q .room in
-      rw put (told-two firstWord m (tripleAt table₀) (tripleAt table₁) (tripleAt table₂) (tripleAt (putTriple table₂ i x)) (valueAt s m) i l r a b x left right (put-here table₂ i x (omega arith)) (put-other table₂ i x) apply o made (value-two s m (q .ranked .valid) i h o l r (two-operation m i w o l r e)))
+      let p = put-here table₂ i x (omega arith) in
+      rw (put, p) (told-two firstWord m (tripleAt table₀) (tripleAt table₁) (tripleAt table₂) (tripleAt (putTriple table₂ i x)) (valueAt s m) i l r (tripleAt table₁ l) (tripleAt table₂ r) a b x left right (λ t u. (read-left ∙ u .stays l (t .here), read-right ∙ u .here)) p (put-other table₂ i x) apply o made (value-two s m (q .ranked .valid) i h o l r (two-operation m i w o l r e)))
+
+-- the table stays right while values are found
+pub record Finding (m table₀ table : List ℕ) (i : ℕ) : Type 0 where
+  pub within : i ≤ used m
+  pub same : length table ≡ length table₀
+  pub right : (s : Assignment) → Right firstWord m (tripleAt table₀) (valueAt s m) → Right firstWord m (tripleAt table) (valueAt s m)
+
+module _ (m table₀ : List ℕ) where
+  pub finding-start : Finding m table₀ table₀ 0
+  finding-start = record { within = omega arith; same = refl; right = λ s q. q }
+
+  module _ (table table′ : List ℕ) (i : ℕ) (f : Finding m table₀ table i) (h : i < used m) where
+    pub finding-skip : table′ ≡ table → Finding m table₀ table′ (i + 1)
+    finding-skip e = record { within = omega arith; same = ap length e ∙ f .same; right = rw e (f .right) }
+
+    pub finding-next : (last : List ℕ) → table′ ≡ last → length last ≡ length table → ((s : Assignment) → Right firstWord m (tripleAt table) (valueAt s m) → Told firstWord m (tripleAt table) (tripleAt last) (valueAt s m) i (tripleAt last i)) → Finding m table₀ table′ (i + 1)
+    finding-next last e k t = record { within = omega arith; same = ap length e ∙ k ∙ f .same; right = λ s q. rw e (t s (f .right s q) .right) }

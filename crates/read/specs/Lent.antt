@@ -2,15 +2,16 @@
 use Prim.Native.Nat.{ℕ, _*_, _/_, _%_, _≤_}
 use mathlib.Core.Path.{_≡_}
 use mathlib.Core.Bool.{Bool, false, _&&_, not}
-use mathlib.Core.List.{List}
+use mathlib.Core.List.{List, [], _∷_}
 use lib.ListN.{length}
 use lib.Dec.{ltb, leb, eqb}
 use Rattle.circuit.specs.declared.node.Expression.{Expression}
 use Rattle.circuit.specs.declared.node.Expression.the-variants.{Base, Extension, Challenge, Operation, Input}
 use Rattle.circuit.specs.Lists.{if_then_else_}
 use Rattle.circuit.specs.Words.{rowKind, used, expressionAt, isMain, column}
-use Rattle.circuit.specs.NotCircuit.{notCircuit}
+use Rattle.circuit.specs.NotCircuit.{notCircuit, badId}
 use Rattle.circuit.specs.Rank.{at}
+use Rattle.paths.specs.Counting.{PathCounts}
 use Rattle.read.specs.declared.table.Columns.{Columns}
 
 -- of one row, and of the challenge list
@@ -38,3 +39,10 @@ beyondAt m counts c i = ltb 0 (at counts i) && beyond c (expressionAt m i)
 pub record Pathed (m counts : List ℕ) : Type 0 where
   pub valid : notCircuit m ≡ false
   pub room : used m ≤ length counts
+
+-- the path counts are those from node i
+pub record PathedFrom (m counts : List ℕ) (i : ℕ) : Type 0 where
+  pub valid : notCircuit m ≡ false
+  pub room : used m ≤ length counts
+  pub ids : badId m (i ∷ []) ≡ false
+  pub counted : PathCounts m (i ∷ []) counts

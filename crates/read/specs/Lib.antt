@@ -1,4 +1,4 @@
--- Reading order: Readings, Refusals, Calls.
+-- Reading order: Readings, Refusals, Calls, Answers. What follows is what the inner functions ask and give.
 pub mod Readings
 pub mod Refusals
 pub mod Calls

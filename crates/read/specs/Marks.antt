@@ -23,7 +23,8 @@ pub record Markable (m counts class seen : List ℕ) : Type 0 where
   pub valid : notCircuit m ≡ false
   pub counts-room : used m ≤ length counts
   pub class-room : used m ≤ length class
-  pub classes : (i : ℕ) → i < used m → at class i < length seen
+  pub seen-room : used m ≤ length seen
+  pub classes : (i : ℕ) → i < used m → at class i < used m
   pub none : (k : ℕ) → at seen k ≡ 0
 
 -- how many of the first n have their mark

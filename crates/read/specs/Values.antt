@@ -1,14 +1,14 @@
 -- Values in a table of triples. Assumes nothing.
-use Prim.Native.Nat.{ℕ, _+_, _*_}
+use Prim.Native.Nat.{ℕ, _+_, _*_, _<_, _≤_}
 use mathlib.Core.List.{List}
-use lib.ListN.{set}
+use lib.ListN.{length, set}
 use Rattle.field.specs.declared.extension.Triple.{Triple}
 use Rattle.field.specs.Extension.{lift}
 use Rattle.circuit.specs.declared.node.Expression.{Expression}
-use Rattle.circuit.specs.Words.{expressionAt}
+use Rattle.circuit.specs.Words.{used, expressionAt}
 use Rattle.circuit.specs.Tree.{tree}
 use Rattle.read.specs.Readings.{Assignment, leafValue, value}
-use Rattle.read.specs.Tables.{unknown, leafEntry}
+use Rattle.read.specs.Tables.{unknown, leafEntry, Ranked}
 
 -- the value of node i
 unfoldable pub valueAt : Assignment → List ℕ → ℕ → Triple
@@ -28,3 +28,15 @@ firstWord x = x .c0
 -- entry i becomes x
 abbrev pub putTriple : List ℕ → ℕ → Triple → List ℕ
 putTriple table i x = set (set (set table (3 * i) (x .c0)) (3 * i + 1) (x .c1)) (3 * i + 2) (x .c2)
+
+-- node i is asked for, and the nodes that are asked for first have a path count
+pub record Evaluable (m rank counts : List ℕ) (i : ℕ) : Type 0 where
+  pub ranked : Ranked m rank
+  pub counts-room : used m ≤ length counts
+  pub here : i < used m
+
+-- all are, in a table with room for each
+pub record Findable (m rank counts table : List ℕ) : Type 0 where
+  pub ranked : Ranked m rank
+  pub counts-room : used m ≤ length counts
+  pub room : 3 * used m ≤ length table

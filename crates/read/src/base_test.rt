@@ -82,7 +82,7 @@ fn base_of(m: &[u64], rank: &[u64], table: &mut [u64], i: u64) -> u64
     }
 }
 
-// The base test of each node.
+// The base test of each node, by ascending ids: in a grown circuit each node's operands are then known, and the stack stays flat.
 pub fn bases(m: &[u64], rank: &[u64], table: &mut [u64])
     requires { ⌜ AllAsked 1 (now m) (now rank) (now table) ⌝ }
     ensures { λ r. ⌜ Filled (used (now (m .entry))) (at (now (table .exit))) (baseBit (now (m .entry))) ⌝ }
@@ -96,7 +96,7 @@ pub fn bases(m: &[u64], rank: &[u64], table: &mut [u64])
     }
 }
 
-// Base test: yes where the value of node i needs no extension.
+// Yes where the value of node i needs no extension.
 pub fn base_test(m: &[u64], i: u64) -> Test
     ensures { λ r. ⌜ toldTest r ≡ baseTestCall (now (m .entry)) i ⌝ }
 {
@@ -109,6 +109,7 @@ pub fn base_test(m: &[u64], i: u64) -> Test
         return Test::Refused(BAD_ID);
     }
     let mut table = [0u64; 4096];
-    leaf_bases(m, &mut table);
-    Test::Answer(base_of(m, &rank, &mut table, i) == 1)
+    bases(m, &rank, &mut table);
+    let node = i as usize;
+    Test::Answer(table[node] == 1)
 }

@@ -115,7 +115,7 @@ fn degree_of(m: &[u64], rank: &[u64], table: &mut [u64], i: u64) -> u64
     }
 }
 
-// The degree of each node, none higher than what is told apart.
+// The degree of each node, none higher than what is told apart; by ascending ids, so that in a grown circuit each node's operands are known.
 pub fn degrees(m: &[u64], rank: &[u64], table: &mut [u64])
     requires { ⌜ AllAsked 1 (now m) (now rank) (now table) ⌝ }
     ensures { λ r. ⌜ Filled (used (now (m .entry))) (at (now (table .exit))) (degreeTo (now (m .entry))) ⌝ }

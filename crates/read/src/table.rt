@@ -3,17 +3,15 @@ use circuit::check::bad_word;
 use circuit::node::Expression;
 use circuit::node::Position;
 use circuit::place::expression_at;
-use paths::counting::count_paths;
 ghost use mathlib.Core.Path.{_≡_};
 ghost use mathlib.Core.Bool.{false};
-ghost use mathlib.Core.List.{[], _∷_, _++_};
+ghost use mathlib.Core.List.{_++_};
 ghost use Prim.Native.Nat.{_<_};
 ghost use Rattle.circuit.specs.Lists.{any, upTo};
 ghost use Rattle.circuit.specs.Words.{used};
 ghost use Rattle.circuit.specs.NotCircuit.{notCircuit, badWord};
 ghost use Rattle.read.specs.Refusals.{badTable};
-ghost use Rattle.read.specs.Rooted.{Rooted};
-ghost use Rattle.read.specs.Lent.{columnsOf, uneven, beyond, beyondAt, Pathed};
+ghost use Rattle.read.specs.Lent.{columnsOf, uneven, beyond, beyondAt, Pathed, PathedFrom};
 
 // How many columns one row has: a main table is one word a column, an auxiliary table three; and how many challenges there are.
 pub struct Columns {
@@ -98,24 +96,20 @@ fn any_beyond(m: &[u64], counts: &[u64], c: Columns) -> bool
 // A length not divisible as its layout needs, or a node below i that reads beyond the tables.
 pub fn bad_table(
     m: &[u64],
-    order: &[u64],
-    rank: &[u64],
+    counts: &[u64],
     i: u64,
     main: &[u64],
     aux: &[u64],
     challenges: &[u64],
 ) -> bool
-    requires { ⌜ Rooted (now m) (now order) (now rank) (i ∷ []) ⌝ }
+    requires { ⌜ PathedFrom (now m) (now counts) i ⌝ }
     ensures { λ r. ⌜ r ≡ badTable (now (m .entry)) i (now (main .entry)) (now (aux .entry)) (now (challenges .entry)) ⌝ }
 {
     if is_uneven(m, main, aux, challenges) {
         return true;
     }
-    let roots = [i];
-    let mut counts = [0u64; 4096];
-    count_paths(m, order, rank, &roots, &mut counts);
     let c = columns_of(m, main, aux, challenges);
-    any_beyond(m, &counts, c)
+    any_beyond(m, counts, c)
 }
 
 fn any_bad(ws: &[u64]) -> bool

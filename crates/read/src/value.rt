@@ -16,6 +16,7 @@ use circuit::refusal::NOT_CIRCUIT;
 use circuit::refusal::TABLE;
 use field::extension;
 use field::extension::Triple;
+use paths::counting::count_paths;
 ghost use mathlib.Core.Path.{_≡_};
 ghost use mathlib.Core.List.{[]};
 ghost use Prim.Native.Nat.{_+_, _*_, _<_};
@@ -26,8 +27,8 @@ ghost use Rattle.circuit.specs.Tree.{tree};
 ghost use Rattle.read.specs.Readings.{Assignment, inputValue, value};
 ghost use Rattle.read.specs.Calls.{tripleAt, assigned, evaluateCall};
 ghost use Rattle.read.specs.Answers.{toldValue};
-ghost use Rattle.read.specs.Tables.{Ranked, Filled, Right, Told, Roomy, Asked};
-ghost use Rattle.read.specs.Values.{valueAt, valueEntry, valueStart, firstWord, putTriple};
+ghost use Rattle.read.specs.Tables.{Filled, Right, Told, Roomy, Asked};
+ghost use Rattle.read.specs.Values.{valueAt, valueEntry, valueStart, firstWord, putTriple, Evaluable, Findable};
 
 // Word k of a row, or 0 beyond it.
 fn word_at(row: &[u64], k: usize) -> u64
@@ -88,6 +89,19 @@ fn leaf_value(e: Expression, main: &[u64], aux: &[u64], challenges: &[u64]) -> T
     }
 }
 
+// Entry i of the table of values.
+fn entry_at(table: &[u64], i: u64) -> Triple
+    requires { ⌜ 3 * i + 2 < length (now table) ⌝ }
+    ensures { λ r. ⌜ r ≡ tripleAt (now (table .entry)) i ⌝ }
+{
+    let place = 3 * (i as usize);
+    Triple {
+        c0: table[place],
+        c1: table[place + 1],
+        c2: table[place + 2],
+    }
+}
+
 fn keep(table: &mut [u64], i: u64, x: Triple)
     requires { ⌜ 3 * i + 2 < length (now table) ⌝ }
     ensures { λ r. ⌜ now (table .exit) ≡ putTriple (now (table .entry)) i x ⌝ }
@@ -123,40 +137,58 @@ fn value_over(o: Op, a: Triple, b: Triple) -> Triple
     }
 }
 
-// The value of node i, worked out once: the rank falls along operands, and the table holds what was found. It holds the leaves' values to begin
-// with, so what the lent tables say is what it says.
-fn value_of(m: &[u64], rank: &[u64], table: &mut [u64], i: u64) -> Triple
+// Finds the value of node i, once: the rank falls along operands, and the table holds what was found. It holds the leaves' values to begin with, so
+// what the lent tables say is what it says. An answer goes into its entry only: a triple that waits in each frame would make the stack half as deep again.
+fn find_value(m: &[u64], rank: &[u64], table: &mut [u64], i: u64)
     requires { ⌜ Asked 3 (now m) (now rank) (now table) i ⌝ }
-    ensures { λ r. ⌜ ((s : Assignment) → Right firstWord (now (m .entry)) (tripleAt (now (table .entry))) (valueAt s (now (m .entry))) → Told firstWord (now (m .entry)) (tripleAt (now (table .entry))) (tripleAt (now (table .exit))) (valueAt s (now (m .entry))) i r) ⌝ }
+    ensures { λ u. ⌜ ((s : Assignment) → Right firstWord (now (m .entry)) (tripleAt (now (table .entry))) (valueAt s (now (m .entry))) → Told firstWord (now (m .entry)) (tripleAt (now (table .entry))) (tripleAt (now (table .exit))) (valueAt s (now (m .entry))) i (tripleAt (now (table .exit)) i)) ⌝ }
 {
-    let known = aux_at(table, i);
+    let known = entry_at(table, i);
     let s = step_at(m, i, known.c0);
     match s {
-        Step::Stay => known,
+        Step::Stay => {}
         Step::Two(o, l, r) => {
-            let a = value_of(m, rank, table, l);
-            let b = value_of(m, rank, table, r);
-            let x = value_over(o, a, b);
+            find_value(m, rank, table, l);
+            find_value(m, rank, table, r);
+            let x = value_over(o, entry_at(table, l), entry_at(table, r));
             keep(table, i, x);
-            x
         }
+    }
+}
+
+// Finds the values of the nodes that have a path count, by ascending ids: in a grown circuit each node's operands are then known, and the stack stays flat.
+fn find_below(m: &[u64], rank: &[u64], counts: &[u64], table: &mut [u64])
+    requires { ⌜ Findable (now m) (now rank) (now counts) (now table) ⌝ }
+    ensures { λ u. ⌜ ((s : Assignment) → Right firstWord (now (m .entry)) (tripleAt (now (table .entry))) (valueAt s (now (m .entry))) → Right firstWord (now (m .entry)) (tripleAt (now (table .exit))) (valueAt s (now (m .entry)))) ⌝ }
+{
+    let n = m[1];
+    let mut i: u64 = 0;
+    while i < n {
+        let node = i as usize;
+        if counts[node] != 0 {
+            find_value(m, rank, table, i);
+        }
+        i += 1;
     }
 }
 
 fn value_at(
     m: &[u64],
     rank: &[u64],
+    counts: &[u64],
     i: u64,
     main: &[u64],
     aux: &[u64],
     challenges: &[u64],
 ) -> Triple
-    requires { ⌜ Ranked (now m) (now rank) × (i < used (now m)) ⌝ }
+    requires { ⌜ Evaluable (now m) (now rank) (now counts) i ⌝ }
     ensures { λ r. ⌜ r ≡ value (assigned (now (main .entry)) (now (aux .entry)) (now (challenges .entry))) (tree (now (m .entry)) i) ⌝ }
 {
     let mut table = [0u64; 12288];
     leaf_values(m, &mut table, main, aux, challenges);
-    value_of(m, rank, &mut table, i)
+    find_below(m, rank, counts, &mut table);
+    find_value(m, rank, &mut table, i);
+    entry_at(&table, i)
 }
 
 // The value of a node, where the lent tables hold the cells of the columns and the challenges.
@@ -171,11 +203,14 @@ pub fn evaluate(m: &[u64], i: u64, main: &[u64], aux: &[u64], challenges: &[u64]
     if m[1] <= i {
         return Value::Refused(BAD_ID);
     }
-    if bad_table(m, &order, &rank, i, main, aux, challenges) {
+    let roots = [i];
+    let mut counts = [0u64; 4096];
+    count_paths(m, &order, &rank, &roots, &mut counts);
+    if bad_table(m, &counts, i, main, aux, challenges) {
         return Value::Refused(TABLE);
     }
     if bad_given(main, aux, challenges) {
         return Value::Refused(BAD_WORD);
     }
-    Value::Found(value_at(m, &rank, i, main, aux, challenges))
+    Value::Found(value_at(m, &rank, &counts, i, main, aux, challenges))
 }

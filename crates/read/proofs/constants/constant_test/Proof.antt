@@ -1,8 +1,9 @@
 use Rattle.read.specs.Calls.{constantCall}
-use Rattle.circuit.proofs.Refusals.{refuses, accepts, refusal-none, reading-no-circuit, reading-bad-id, reading-accepted, no-bad-id, bad-id-here, bad-id-next}
+use Rattle.read.proofs.Lists.{good-id}
+use Rattle.circuit.proofs.Refusals.{refuses, accepts, refusal-none, reading-no-circuit, reading-bad-id, reading-accepted, bad-id-here}
 use Rattle.circuit.proofs.Valid.{valid-length, valid-fits}
 use mathlib.Core.List.{[], _∷_}
-use mathlib.Core.Path.{sym, _∙_}
+use mathlib.Core.Path.{sym}
 use borrow.Author.Needs.{needs}
 use Rattle.read.proofs.constants.constant_test.Statement.{statement}
 use Rattle.read.proofs.constants.constant_test.Tie as tie
@@ -26,7 +27,7 @@ is-constant-requires c κs = valid-fits _ (accepts _ _ (c .before .before .befor
 
 returns-3 : tie.Need-returns-3
 unfolding constantCall
-returns-3 c = rw (c .is-constant .ensures) (sym (reading-accepted (c .before .before .before .before .before .before .args .m .now) (c .before .before .before .before .before .before .args .i ∷ []) [] _ _ (accepts _ _ (c .before .before .before .before .is-circuit .ensures) (c .before .before .before .if1 .left)) (bad-id-next (c .before .before .before .before .before .before .args .m .now) _ _ (c .before .if2 .left) ∙ no-bad-id (c .before .before .before .before .before .before .args .m .now)) refusal-none))
+returns-3 c = rw (c .is-constant .ensures) (sym (reading-accepted (c .before .before .before .before .before .before .args .m .now) (c .before .before .before .before .before .before .args .i ∷ []) [] _ _ (accepts _ _ (c .before .before .before .before .is-circuit .ensures) (c .before .before .before .if1 .left)) (good-id _ _ (c .before .if2 .left)) refusal-none))
 
 pub constant-test-spec : {M : Type 1} → statement M
 constant-test-spec =

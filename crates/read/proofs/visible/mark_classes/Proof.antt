@@ -36,10 +36,13 @@ shared-slice-read-c : tie.Need-shared-slice-read-c Inv-loop μ-loop
 shared-slice-read-c c = let r = c .before .before .before .before .before .before .pre .class-room in omega arith
 
 mul-seen : tie.Need-mul-seen Inv-loop μ-loop
-mul-seen c = let h = c .before .before .before .before .before .before .pre .classes (c .before .before .before .before .loop .i) (c .before .before .before .loop-test .taken) in search needs
+mul-seen c =
+    let h = c .before .before .before .before .before .before .pre .classes (c .before .before .before .before .loop .i) (c .before .before .before .loop-test .taken) in
+    let r = c .before .before .before .before .before .before .pre .seen-room in
+    search needs
 
 slice-write-seen : tie.Need-slice-write-seen Inv-loop μ-loop
-slice-write-seen c = let h = c .before .before .before .before .before .before .pre .classes (c .before .before .before .before .loop .i) (c .before .before .before .loop-test .taken) in omega (arith, c .before .before .before .before .loop .inv .1 .0)
+slice-write-seen c = omega (arith, c .before .before .before .before .before .before .pre .classes (c .before .before .before .before .loop .i) (c .before .before .before .loop-test .taken), c .before .before .before .before .before .before .pre .seen-room, c .before .before .before .before .loop .inv .1 .0)
 
 add-i : tie.Need-add-i Inv-loop μ-loop
 add-i c = search needs
@@ -51,7 +54,7 @@ loop-again : tie.Need-loop-again Inv-loop μ-loop
 loop-again c =
     let p = c .before .before .before .before .before .pre .classes (c .before .before .before .loop .i) (c .before .before .loop-test .taken) in
     let f = c .before .before .before .loop .inv .1 .1 in
-    (omega arith, ⊎-elim (λ w. (rw (w .2, length-set) (c .before .before .before .loop .inv .1 .0), rw (w .2) (marked-set _ _ _ _ f (w .0 .taken) (omega (arith, c .before .before .before .loop .inv .1 .0))))) (λ w. (rw (w .1) (c .before .before .before .loop .inv .1 .0), rw (w .1) (marked-skip _ _ _ _ f (w .0 .left)))) (c .if1 .came))
+    (omega arith, ⊎-elim (λ w. (rw (w .2, length-set) (c .before .before .before .loop .inv .1 .0), rw (w .2) (marked-set _ _ _ _ f (w .0 .taken) (omega (arith, c .before .before .before .loop .inv .1 .0, c .before .before .before .before .before .pre .seen-room))))) (λ w. (rw (w .1) (c .before .before .before .loop .inv .1 .0), rw (w .1) (marked-skip _ _ _ _ f (w .0 .left)))) (c .if1 .came))
 
 same-length : tie.Need-same-length Inv-loop μ-loop
 same-length c = c .before .loop .inv .1 .0

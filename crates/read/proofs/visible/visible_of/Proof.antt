@@ -39,7 +39,7 @@ slice-aggregate-mark-classes-3 c = search needs
 mark-classes-requires : tie.Need-mark-classes-requires
 mark-classes-requires c κs =
     let t = valid-top _ (c .before .before .before .before .before .before .before .before .before .before .before .before .before .before .before .before .before .pre .valid) in
-    record { valid = c .before .before .before .before .before .before .before .before .before .before .before .before .before .before .before .before .before .pre .valid; counts-room = omega (arith, c .before .before .before .before .before .before .before .before .before .before .before .count-paths .kept .1 .1 .1 .1 .0); class-room = omega (arith, c .before .before .before .before .before .before .classes .kept .1 .1 .1 .0); classes = λ i l. omega (arith, class-below _ _ (c .before .before .before .before .before .before .classes .ensures) i l); none = no-marks 4096 }
+    record { valid = c .before .before .before .before .before .before .before .before .before .before .before .before .before .before .before .before .before .pre .valid; counts-room = omega (arith, c .before .before .before .before .before .before .before .before .before .before .before .count-paths .kept .1 .1 .1 .1 .0); class-room = omega (arith, c .before .before .before .before .before .before .classes .kept .1 .1 .1 .0); seen-room = omega arith; classes = class-below _ _ (c .before .before .before .before .before .before .classes .ensures); none = no-marks 4096 }
 
 slice-aggregate-count-marks : tie.Need-slice-aggregate-count-marks
 slice-aggregate-count-marks c = search needs
