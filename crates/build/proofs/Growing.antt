@@ -17,7 +17,7 @@ use Rattle.circuit.specs.declared.node.Expression.the-variants.{Base, Operation
 use Rattle.circuit.specs.Lists.{if_then_else_}
 use Rattle.circuit.specs.Words.{used, limit, expressionAt, made, constantOf, constant, isConstant, apply}
 use Rattle.circuit.proofs.Places.{made-length, made-limit}
-use Rattle.build.specs.Building.{Built, built, find, orElse, findOrMake, eitherOrder, foldedOr, folding, operate, negated, subtracted, summedFrom}
+use Rattle.building.specs.Building.{Built, built, find, orElse, findOrMake, eitherOrder, foldedOr, folding, operate, negated, subtracted, summedFrom}
 use Rattle.build.specs.Inner.{simplified, Kept}
 use Rattle.build.proofs.Making.{made-one, made-word}
 

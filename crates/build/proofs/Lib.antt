@@ -5,6 +5,3 @@ pub mod Stepping
 pub mod Runs
 pub mod Saving
 pub mod Undoing
-pub mod Endings
-pub mod Built
-pub mod Once

@@ -18,7 +18,7 @@ use Rattle.circuit.specs.NotCircuit.{badExpression, badId}
 use Rattle.circuit.proofs.Tests.{neither}
 use Rattle.build.specs.declared.steps.Made.{Made}
 use Rattle.build.specs.declared.steps.Made.the-variants.{At, Full}
-use Rattle.build.specs.Building.{Built, built, findOrMake, operate, negated, subtracted, summedFrom, summed, full}
+use Rattle.building.specs.Building.{Built, built, findOrMake, operate, negated, subtracted, summedFrom, summed, full}
 use Rattle.build.specs.Inner.{Buildable, Makable, Operable, Summable, Taken, Stopped, Step, Unchanged, Stepped, Kept, Tried}
 use Rattle.build.proofs.Growing.{Grown, still, grown-used, grown-then, grown-kept, find-grows, operate-grows, negate-grows, sum-grows}
 

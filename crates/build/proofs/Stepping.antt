@@ -28,7 +28,7 @@ use Rattle.classes.specs.Find.{placed, leastEqual, Classed, Findable, Joinable}
 use Rattle.classes.proofs.Finding.{made-joinable}
 use Rattle.build.specs.declared.steps.Made.{Made}
 use Rattle.build.specs.declared.steps.Made.the-variants.{At, Full}
-use Rattle.build.specs.Building.{Built, built, find, orElse, findOrMake, eitherOrder, folding, operate, full}
+use Rattle.building.specs.Building.{Built, built, find, orElse, findOrMake, eitherOrder, folding, operate, full}
 use Rattle.build.specs.declared.constants.Valued.{Valued}
 use Rattle.build.specs.Inner.{valued, simplified, Buildable, Makable, Operable, Taken, Stopped, Step, Stepped}
 use Rattle.build.proofs.Making.{made-one, made-circuit}

@@ -11,7 +11,7 @@ use Rattle.circuit.proofs.Valid.{valid-length, limit-top}
 use Rattle.circuit.proofs.Lists.{clash}
 use Rattle.build.specs.declared.steps.Made.{Made}
 use Rattle.build.specs.declared.steps.Made.the-variants.{At, Full}
-use Rattle.build.specs.Building.{Built, summed, full}
+use Rattle.building.specs.Building.{Built, summed, full}
 use Rattle.build.specs.Inner.{Buildable, Summable, Stopped, Step, Stepped, Kept, Tried}
 use Rattle.build.specs.Saved.{Saved, Restorable, Restored, Classable}
 use Rattle.build.proofs.Growing.{sum-grows}

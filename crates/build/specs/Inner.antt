@@ -18,7 +18,7 @@ use Rattle.build.specs.declared.constants.Valued.{Valued}
 use Rattle.build.specs.declared.constants.Valued.the-variants as constants
 use Rattle.build.specs.declared.steps.Made.{Made}
 use Rattle.build.specs.declared.steps.Made.the-variants.{At, Full}
-use Rattle.build.specs.Building.{Built, full}
+use Rattle.building.specs.Building.{Built, full}
 
 -- the value of a constant, if it is one
 abbrev pub valued : Valued → Option Triple

@@ -1,9 +1,3 @@
--- Reading order: Building, Calls, Answers, Examples. Inner and Saved are for the inner forms.
-pub mod Building
-pub mod Calls
-pub mod Computing
-pub mod Examples
+-- What the inner forms ask and give.
 pub mod Inner
 pub mod Saved
-pub mod Answers
-pub mod Results

@@ -1,11 +1,4 @@
-// Leaves and operations: document 01, "Building".
-pub mod calls;
+// The inner forms of building, for a circuit that is known to be one: document 01, "Building".
 pub mod constants;
 pub mod several;
 pub mod steps;
-
-// The id that a building call answers, or the number of its refusal.
-pub enum Answer {
-    Id(u64),
-    Refused(u64),
-}

@@ -14,7 +14,7 @@ ghost use mathlib.Core.Path.{_≡_};
 ghost use Prim.Native.Nat.{_≤_};
 ghost use lib.ListN.{length};
 ghost use Rattle.circuit.specs.Words.{used, offset};
-ghost use Rattle.build.specs.Building.{negated, subtracted, summed};
+ghost use Rattle.building.specs.Building.{negated, subtracted, summed};
 ghost use Rattle.build.specs.Inner.{Operable, Summable, Buildable, Step, Stepped, Tried};
 ghost use Rattle.build.specs.Saved.{Saved, Restorable, Restored, Classable};
 

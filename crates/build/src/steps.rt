@@ -14,7 +14,7 @@ use classes::find::Place;
 use classes::find::find;
 use classes::find::join;
 ghost use Rattle.circuit.specs.Words.{used, made};
-ghost use Rattle.build.specs.Building.{built, findOrMake, eitherOrder, folding, operate};
+ghost use Rattle.building.specs.Building.{built, findOrMake, eitherOrder, folding, operate};
 ghost use Rattle.build.specs.Inner.{Makable, Operable, Stepped};
 
 // The id of a node that was found or made, or that there is no place for it.

@@ -15,8 +15,8 @@ use Rattle.circuit.specs.Words.{rowKind, offset}
 use Rattle.circuit.specs.NotCircuit.{badId}
 use Rattle.circuit.specs.Outcomes.{Outcome, refusal}
 use Rattle.circuit.specs.Calls.{startCall}
-use Rattle.build.specs.Calls.{inputCall, challengeCall, baseCall, extensionCall, operationCall, subtractCall, negateCall}
-use Rattle.lower.specs.Calls.{lowerCall, returned}
+use Rattle.building.specs.Calls.{inputCall, challengeCall, baseCall, extensionCall, operationCall, subtractCall, negateCall}
+use Rattle.lowering.specs.Calls.{lowerCall, returned}
 
 -- what the program keeps between lines
 pub record State : Type 0 where

@@ -18,14 +18,14 @@ use Rattle.circuit.proofs.Tests.{is-false}
 use Rattle.circuit.proofs.Lists.{clash}
 use Rattle.paths.proofs.Below.{any-some}
 use Rattle.read.specs.Refusals.{overDegree}
-use Rattle.lower.specs.Lowering.{Lowering, M, tooHigh, candidates, best, substituted, loop, lowered}
-use Rattle.lower.specs.Refusals.{overOccurrences}
+use Rattle.lowering.specs.Lowering.{Lowering, M, tooHigh, candidates, best, substituted, loop, lowered}
+use Rattle.lowering.specs.Refusals.{overOccurrences}
 use Rattle.lower.specs.Survey.{Choosable}
-use Rattle.lower.proofs.Count.{unf-some}
-use Rattle.lower.proofs.Words.{look, look-lt}
-use Rattle.lower.proofs.Proper.{Proper, circuit-of}
-use Rattle.lower.proofs.OneMore.{State, Added, to-main, to-aux, OneMore, one-more, state-after, length-more}
-use Rattle.lower.proofs.Loops.{loop-ran}
+use Rattle.lowering.proofs.Count.{unf-some}
+use Rattle.lowering.proofs.Words.{look, look-lt}
+use Rattle.lowering.proofs.Proper.{Proper, circuit-of}
+use Rattle.lowering.proofs.OneMore.{State, Added, to-main, to-aux, OneMore, one-more, state-after, length-more}
+use Rattle.lowering.proofs.Loops.{loop-ran}
 use Rattle.lower.proofs.Falls.{degree-after, occurrences-after}
 
 -- what a lowering comes to: it fits, and takes fewer than M substitutions

@@ -5,16 +5,16 @@ use mathlib.Core.Bool.{true, false}
 use mathlib.Core.List.{List}
 use native.Mathlib.Omega.{arith}
 use Rattle.read.specs.Refusals.{overDegree}
-use Rattle.lower.specs.Lowering.{M, tooHigh, lowered}
-use Rattle.lower.specs.Refusals.{overOccurrences}
-use Rattle.lower.proofs.Words.{valid-sound}
-use Rattle.lower.proofs.Proper.{proper-of}
-use Rattle.lower.proofs.Chooses.{all-registered}
-use Rattle.lower.proofs.OneMore.{State}
-use Rattle.lower.proofs.Fills.{start}
-use Rattle.lower.proofs.Accepts.{First, Then, rooted-start, columns-start}
-use Rattle.lower.proofs.Theorem.{demand-some}
-use Rattle.lower.proofs.Fits.{columns-room, fits-some}
+use Rattle.lowering.specs.Lowering.{M, tooHigh, lowered}
+use Rattle.lowering.specs.Refusals.{overOccurrences}
+use Rattle.lowering.proofs.Words.{valid-sound}
+use Rattle.lowering.proofs.Proper.{proper-of}
+use Rattle.lowering.proofs.Chooses.{all-registered}
+use Rattle.lowering.proofs.OneMore.{State}
+use Rattle.lowering.proofs.Fills.{start}
+use Rattle.lowering.proofs.Accepts.{First, Then, rooted-start, columns-start}
+use Rattle.lowering.proofs.Theorem.{demand-some}
+use Rattle.lowering.proofs.Fits.{columns-room, fits-some}
 use Rattle.lower.proofs.Along.{Bounded, Going}
 
 module _ (T mc ac : ℕ) (m roots : List ℕ) (first : First T m roots) (then : Then mc ac m roots) (high : tooHigh T m roots ≡ true) where

@@ -20,17 +20,17 @@ use Rattle.paths.proofs.Walks.{count-append, from, paths-none, paths-more}
 use Rattle.paths.proofs.Below.{any-in, any-some, paths-in, in-paths}
 use Rattle.read.specs.Readings.{degree⁺, above}
 use Rattle.read.specs.Refusals.{overDegree}
-use Rattle.lower.specs.Lowering.{Lowering, belowAbove}
-use Rattle.lower.specs.Refusals.{overOccurrences}
-use Rattle.lower.proofs.Shape.{leafE, opE, Shape, lf, Look, Unf, deg}
-use Rattle.lower.proofs.Steps.{Moved, Move, Below, Rooted}
-use Rattle.lower.proofs.Unfold.{deg-sub}
-use Rattle.lower.proofs.OneStep.{tree-after}
-use Rattle.lower.proofs.Count.{unf-some, below-tree, below-after}
-use Rattle.lower.proofs.ListLaws.{in-keep, in-upTo}
-use Rattle.lower.proofs.Words.{look, look-lt, Tru, tree-of}
-use Rattle.lower.proofs.Chooses.{degree-is, above-true, above-yes, walk-below, in-walks, below-walks, walks-below, paths-below, in-high, high-in}
-use Rattle.lower.proofs.OneMore.{State, OneMore, state-after}
+use Rattle.lowering.specs.Lowering.{Lowering, belowAbove}
+use Rattle.lowering.specs.Refusals.{overOccurrences}
+use Rattle.lowering.proofs.Shape.{leafE, opE, Shape, lf, Look, Unf, deg}
+use Rattle.lowering.proofs.Steps.{Moved, Move, Below, Rooted}
+use Rattle.lowering.proofs.Unfold.{deg-sub}
+use Rattle.lowering.proofs.OneStep.{tree-after}
+use Rattle.lowering.proofs.Count.{unf-some, below-tree, below-after}
+use Rattle.lowering.proofs.ListLaws.{in-keep, in-upTo}
+use Rattle.lowering.proofs.Words.{look, look-lt, Tru, tree-of}
+use Rattle.lowering.proofs.Chooses.{degree-is, above-true, above-yes, walk-below, in-walks, below-walks, walks-below, paths-below, in-high, high-in}
+use Rattle.lowering.proofs.OneMore.{State, OneMore, state-after}
 use Rattle.lower.proofs.Selects.{keep-more}
 
 -- the new input's walk is the input itself

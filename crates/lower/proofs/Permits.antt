@@ -15,14 +15,14 @@ use Rattle.circuit.specs.declared.node.Expression.the-variants.{Input}
 use Rattle.circuit.specs.Words.{used, limit, column, isMain, isNext, made}
 use Rattle.circuit.specs.Tree.{inputLeaf, tree}
 use Rattle.circuit.specs.NotCircuit.{notCircuit, badExpression, badRow}
-use Rattle.build.specs.Building.{Built, built, findOrMake, subtracted, full}
+use Rattle.building.specs.Building.{Built, built, findOrMake, subtracted, full}
 use Rattle.read.specs.Readings.{isBase}
-use Rattle.lower.specs.Lowering.{redirected}
+use Rattle.lowering.specs.Lowering.{redirected}
 use Rattle.lower.specs.Substituting.{inputAt, Roomy, Fitting, Differing, newInput, turned, Substitutable}
-use Rattle.lower.proofs.Shape.{leafE, Shape, Unf, deg, baseS}
-use Rattle.lower.proofs.Words.{look, look-lt, Sound}
-use Rattle.lower.proofs.Proper.{Proper, circuit-of}
-use Rattle.lower.proofs.Substitutes.{input-made, one, one-is, one-sound, one-used, one-length, one-proper, s-old, two, two-is, two-sound, two-used, two-length, two-proper, three, three-is, stepped}
+use Rattle.lowering.proofs.Shape.{leafE, Shape, Unf, deg, baseS}
+use Rattle.lowering.proofs.Words.{look, look-lt, Sound}
+use Rattle.lowering.proofs.Proper.{Proper, circuit-of}
+use Rattle.lowering.proofs.Substitutes.{input-made, one, one-is, one-sound, one-used, one-length, one-proper, s-old, two, two-is, two-sound, two-used, two-length, two-proper, three, three-is, stepped}
 use Rattle.lower.proofs.Along.{same-limit, inside}
 
 module _ (m : List ℕ) (sound : Sound m) (s : ℕ) (u : Shape) (large : 3 ≤ deg u) (at-s : Unf (look m) u s) (y : Position) (fresh : (i : ℕ) → look m i ≢ some (leafE (inputLeaf y)))

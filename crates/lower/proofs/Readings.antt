@@ -20,10 +20,10 @@ use Rattle.paths.specs.Counting.{over, PathCounts}
 use Rattle.paths.proofs.Below.{any-walks, root-below, paths-in, any-some}
 use Rattle.read.specs.Readings.{degree⁺, above}
 use Rattle.read.specs.Refusals.{overDegree}
-use Rattle.lower.specs.Lowering.{Candidate, belowAbove, M, tooHigh, candidates, best}
-use Rattle.lower.specs.Refusals.{loose, overOccurrences}
+use Rattle.lowering.specs.Lowering.{Candidate, belowAbove, M, tooHigh, candidates, best}
+use Rattle.lowering.specs.Refusals.{loose, overOccurrences}
 use Rattle.lower.specs.Tables.{Degrees, aboveIn, isHighIn, highIn, isCandidateIn, candidateIn, bestIn, isLooseIn, isOverIn}
-use Rattle.lower.proofs.ListLaws.{any-false, in-upTo}
+use Rattle.lowering.proofs.ListLaws.{any-false, in-upTo}
 use Rattle.lower.proofs.Seen.{ltb-same}
 
 -- tests that agree on a list

@@ -14,12 +14,12 @@ use Rattle.circuit.specs.Outcomes.{refusal}
 use Rattle.paths.specs.Paths.{paths}
 use Rattle.paths.specs.Counting.{PathCounts}
 use Rattle.read.specs.Refusals.{overDegree}
-use Rattle.lower.specs.Lowering.{M, tooHigh}
-use Rattle.lower.specs.Refusals.{fullLowering, badColumns, loose, overOccurrences}
+use Rattle.lowering.specs.Lowering.{M, tooHigh}
+use Rattle.lowering.specs.Refusals.{fullLowering, badColumns, loose, overOccurrences}
 use Rattle.lower.specs.Tables.{aboveIn, highIn, Listed, isLooseIn, isOverIn}
 use Rattle.lower.specs.Survey.{Surveyed}
 use Rattle.lower.specs.Refusing.{thenTests, thenRefusal, Passed, columnsFor, overFrom}
-use Rattle.lower.proofs.ListLaws.{in-upTo}
+use Rattle.lowering.proofs.ListLaws.{in-upTo}
 use Rattle.lower.proofs.Readings.{any-same, exact, above-small, high-is, heavy-is, over-degree-is, too-high-is, loose-is, small-target}
 use Rattle.lower.proofs.Surveys.{high-few}
 

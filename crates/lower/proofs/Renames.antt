@@ -21,8 +21,8 @@ use Rattle.circuit.specs.Walk.{stepOf}
 use Rattle.circuit.proofs.Tests.{either, is-false}
 use Rattle.circuit.proofs.Places.{operation-words}
 use Rattle.paths.proofs.Walks.{step-two}
-use Rattle.lower.specs.Lowering.{renamed, renameOperands}
-use Rattle.lower.proofs.Redirects.{each-snoc}
+use Rattle.lowering.specs.Lowering.{renamed, renameOperands}
+use Rattle.lowering.proofs.Redirects.{each-snoc}
 
 -- a place that stays is no operation
 stays : (k a b c : ℕ) → stepOf (decode k a b c) ≡ Stay → (eqb k 3 || eqb k 4) ≡ false

@@ -14,7 +14,7 @@ use Rattle.circuit.specs.Lists.{if_then_else_, upTo, keep, each}
 use Rattle.circuit.specs.Rank.{at}
 use Rattle.circuit.proofs.Tests.{below-or}
 use Rattle.circuit.proofs.Lists.{and-true}
-use Rattle.lower.specs.Lowering.{Candidate, better, best}
+use Rattle.lowering.specs.Lowering.{Candidate, better, best}
 use Rattle.lower.specs.Tables.{isHighIn, highIn, Listed, isCandidateIn, candidateIn, bestIn, improved}
 
 keep-last : (p : ℕ → Bool) (xs : List ℕ) (x : ℕ) → keep p (xs ++ (x ∷ [])) ≡ keep p xs ++ (if p x then x ∷ [] else [])

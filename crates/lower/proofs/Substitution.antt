@@ -14,13 +14,13 @@ use Rattle.circuit.proofs.Lists.{clash}
 use Rattle.circuit.proofs.Valid.{valid-room}
 use Rattle.build.specs.declared.steps.Made.{Made}
 use Rattle.build.specs.declared.steps.Made.the-variants.{At, Full}
-use Rattle.build.specs.Building.{Built, findOrMake, subtracted, full}
+use Rattle.building.specs.Building.{Built, findOrMake, subtracted, full}
 use Rattle.build.specs.Inner.{Step, Taken, Stopped}
 use Rattle.read.specs.Readings.{isBase}
 use Rattle.read.specs.Tables.{Filled}
 use Rattle.read.specs.Bases.{baseBit}
 use Rattle.lower.specs.declared.substitute.Constraint.{Constraint}
-use Rattle.lower.specs.Lowering.{renamed, redirected}
+use Rattle.lowering.specs.Lowering.{renamed, redirected}
 use Rattle.lower.specs.Substituting.{inputAt, Fitting, Differing, Gives, newInput, turned, difference, Substitutable, Replaced}
 
 -- the base test from its bit

@@ -19,10 +19,10 @@ use Rattle.paths.proofs.Below.{any-some}
 use Rattle.paths.proofs.Counts.{valid-top}
 use Rattle.read.specs.Tables.{Filled, Ranked, AllAsked}
 use Rattle.read.specs.Degrees.{degreeTo}
-use Rattle.lower.specs.Lowering.{tooHigh}
+use Rattle.lowering.specs.Lowering.{tooHigh}
 use Rattle.lower.specs.Tables.{Degrees, aboveIn, isHighIn, highIn, Listed, bestIn}
 use Rattle.lower.specs.Survey.{Surveyed, Occurring, Choosable, chosenNext}
-use Rattle.lower.proofs.ListLaws.{in-keep, in-upTo}
+use Rattle.lowering.proofs.ListLaws.{in-keep, in-upTo}
 use Rattle.lower.proofs.Readings.{high-is, best-is, too-high-is, small-target}
 
 -- a circuit passes its check, so the order is one

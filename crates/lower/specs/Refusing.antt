@@ -10,8 +10,8 @@ use Rattle.circuit.specs.NotCircuit.{notCircuit, badId}
 use Rattle.circuit.specs.Outcomes.{refusal}
 use Rattle.paths.specs.Paths.{paths}
 use Rattle.read.specs.Refusals.{overDegree}
-use Rattle.lower.specs.Lowering.{M}
-use Rattle.lower.specs.Refusals.{inputAtOrAbove, fullLowering, badColumns, loose, overOccurrences}
+use Rattle.lowering.specs.Lowering.{M}
+use Rattle.lowering.specs.Refusals.{inputAtOrAbove, fullLowering, badColumns, loose, overOccurrences}
 use Rattle.lower.specs.Tables.{aboveIn, highIn}
 
 -- 1, 8, 2, 11

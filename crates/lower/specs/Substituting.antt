@@ -10,10 +10,10 @@ use Rattle.circuit.specs.Lists.{if_then_else_}
 use Rattle.circuit.specs.Words.{used}
 use Rattle.circuit.specs.Tree.{tree}
 use Rattle.circuit.specs.NotCircuit.{notCircuit, badExpression}
-use Rattle.build.specs.Building.{Built, findOrMake, subtracted, full}
+use Rattle.building.specs.Building.{Built, findOrMake, subtracted, full}
 use Rattle.read.specs.Readings.{isBase}
 use Rattle.lower.specs.declared.substitute.Constraint.{Constraint}
-use Rattle.lower.specs.Lowering.{renamed, redirected}
+use Rattle.lowering.specs.Lowering.{renamed, redirected}
 
 -- the new input, at one of two columns
 abbrev pub inputAt : Bool → ℕ → ℕ → Expression

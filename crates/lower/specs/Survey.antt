@@ -12,8 +12,8 @@ use Rattle.paths.specs.Counting.{PathCounts}
 use Rattle.read.specs.Refusals.{overDegree}
 use Rattle.lower.specs.declared.next.Next.{Next}
 use Rattle.lower.specs.declared.next.Next.the-variants.{Node, Done}
-use Rattle.lower.specs.Lowering.{tooHigh, candidates, best}
-use Rattle.lower.specs.Refusals.{overOccurrences}
+use Rattle.lowering.specs.Lowering.{tooHigh, candidates, best}
+use Rattle.lowering.specs.Refusals.{overOccurrences}
 use Rattle.lower.specs.Tables.{Degrees}
 
 -- a circuit, roots in it, and a place for each node in every table

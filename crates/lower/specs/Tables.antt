@@ -11,7 +11,7 @@ use Rattle.circuit.specs.Tree.{tree}
 use Rattle.circuit.specs.Rank.{at}
 use Rattle.read.specs.Readings.{degree⁺}
 use Rattle.lower.specs.declared.choose.Choice.{Choice}
-use Rattle.lower.specs.Lowering.{Candidate, better, best}
+use Rattle.lowering.specs.Lowering.{Candidate, better, best}
 
 -- the least degree over the bound, one higher as all degrees here: more isn't told apart
 abbrev pub top : ℕ

@@ -3,7 +3,7 @@ ghost use mathlib.Core.Path.{_≡_};
 ghost use Prim.Native.Nat.{_≤_};
 ghost use lib.ListN.{length};
 ghost use Rattle.circuit.specs.Rank.{at};
-ghost use Rattle.lower.specs.Lowering.{better};
+ghost use Rattle.lowering.specs.Lowering.{better};
 ghost use Rattle.lower.specs.Tables.{aboveIn, isHighIn, highIn, Listed, isCandidateIn, bestIn, candidateOf, improved};
 
 // A candidate: its degree is one higher, as in the table.

@@ -8,7 +8,7 @@ ghost use mathlib.Core.List.{map};
 ghost use Prim.Native.Nat.{_+_, _<_, _≤_};
 ghost use lib.ListN.{length};
 ghost use Rattle.circuit.specs.Words.{used, limit, offset};
-ghost use Rattle.lower.specs.Lowering.{renamed, renameOperands, redirected};
+ghost use Rattle.lowering.specs.Lowering.{renamed, renameOperands, redirected};
 
 // s becomes n where it is named.
 fn rename(s: u64, n: u64, i: u64) -> u64

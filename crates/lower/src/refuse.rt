@@ -29,7 +29,7 @@ ghost use Rattle.circuit.specs.NotCircuit.{notCircuit, badId};
 ghost use Rattle.circuit.specs.Outcomes.{refusal};
 ghost use Rattle.circuit.specs.Rank.{Sorted};
 ghost use Rattle.read.specs.Refusals.{overDegree};
-ghost use Rattle.lower.specs.Lowering.{tooHigh};
+ghost use Rattle.lowering.specs.Lowering.{tooHigh};
 ghost use Rattle.lower.specs.Refusing.{firstRefusal, thenTests, thenRefusal, Passed, columnsFor, overFrom};
 
 // The bound of degrees.

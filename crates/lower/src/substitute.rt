@@ -16,7 +16,7 @@ ghost use Prim.Native.Nat.{_<_};
 ghost use Rattle.circuit.specs.Words.{used};
 ghost use Rattle.circuit.specs.Tree.{tree};
 ghost use Rattle.circuit.specs.NotCircuit.{notCircuit};
-ghost use Rattle.build.specs.Building.{findOrMake, subtracted};
+ghost use Rattle.building.specs.Building.{findOrMake, subtracted};
 ghost use Rattle.read.specs.Readings.{isBase};
 ghost use Rattle.lower.specs.Substituting.{inputAt, Fitting, Differing, Gives, Substitutable, Replaced};
 

@@ -13,7 +13,7 @@ ghost use lib.Dec.{ltb};
 ghost use Rattle.circuit.specs.Lists.{any, upTo};
 ghost use Rattle.circuit.specs.Words.{used, offset, expressionAt};
 ghost use Rattle.circuit.specs.NotCircuit.{notCircuit};
-ghost use Rattle.lower.specs.Refusals.{atOrAbove, inputAtOrAbove};
+ghost use Rattle.lowering.specs.Refusals.{atOrAbove, inputAtOrAbove};
 ghost use Rattle.lower.specs.Tables.{aboveIn, isLooseIn, isOverIn};
 
 // The highest path count, and the highest column with one more.

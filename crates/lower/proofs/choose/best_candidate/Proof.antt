@@ -3,7 +3,7 @@ use Prim.Native.Nat.{_≤_, _-_}
 use mathlib.Core.Path.{_≡_, ap, _∙_}
 use native.Mathlib.Omega.{arith}
 use Rattle.circuit.specs.Lists.{each, upTo}
-use Rattle.lower.specs.Lowering.{Candidate}
+use Rattle.lowering.specs.Lowering.{Candidate}
 use Rattle.lower.specs.Tables.{candidateOf, improved}
 use Rattle.lower.proofs.Renames.{each-start, each-next}
 use Rattle.lower.proofs.Selects.{nothing, best-last}

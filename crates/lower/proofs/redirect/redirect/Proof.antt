@@ -9,7 +9,7 @@ use Rattle.circuit.specs.Lists.{each, upTo}
 use Rattle.circuit.specs.Words.{used}
 use Rattle.circuit.proofs.Valid.{place-fits}
 use Rattle.circuit.proofs.Places.{write-used}
-use Rattle.lower.specs.Lowering.{renameOperands, redirected}
+use Rattle.lowering.specs.Lowering.{renameOperands, redirected}
 use Rattle.lower.proofs.Renames.{each-start, each-next}
 use Rattle.lower.proofs.redirect.redirect.Statement.{statement}
 use Rattle.lower.proofs.redirect.redirect.Tie as tie

@@ -3,7 +3,7 @@ use Prim.Native.Nat.{_≤_, _-_}
 use mathlib.Core.Path.{_≡_, refl, _∙_}
 use lib.ListN.{length, length-set}
 use native.Mathlib.Omega.{arith}
-use Rattle.lower.specs.Lowering.{renamed}
+use Rattle.lowering.specs.Lowering.{renamed}
 use Rattle.lower.proofs.Renames.{mapped, mapped-start, mapped-next, mapped-all}
 use Rattle.lower.proofs.redirect.rename_roots.Statement.{statement}
 use Rattle.lower.proofs.redirect.rename_roots.Tie as tie

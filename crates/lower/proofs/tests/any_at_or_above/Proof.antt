@@ -5,7 +5,7 @@ use mathlib.Core.Bool.{false}
 use native.Mathlib.Omega.{arith}
 use Rattle.circuit.specs.Lists.{any, upTo}
 use Rattle.circuit.specs.Words.{used, expressionAt}
-use Rattle.lower.specs.Refusals.{inputAtOrAbove}
+use Rattle.lowering.specs.Refusals.{inputAtOrAbove}
 use Rattle.circuit.proofs.Tests.{any-start, any-one, any-next}
 use Rattle.circuit.proofs.Valid.{valid-length, valid-fits}
 use Rattle.paths.proofs.Counts.{valid-top}

@@ -1,6 +1,6 @@
 use borrow.Author.Needs.{needs}
 use mathlib.Core.Path.{sym, ap}
-use Rattle.lower.specs.Refusals.{atOrAbove}
+use Rattle.lowering.specs.Refusals.{atOrAbove}
 use Rattle.lower.proofs.tests.at_or_above.Statement.{statement}
 use Rattle.lower.proofs.tests.at_or_above.Tie as tie
 

@@ -1,6 +1,6 @@
 use borrow.Author.Needs.{needs}
 use mathlib.Core.Path.{sym, ap, _∙_}
-use Rattle.lower.specs.Refusals.{inputAtOrAbove}
+use Rattle.lowering.specs.Refusals.{inputAtOrAbove}
 use Rattle.lower.proofs.tests.input_at_or_above.Statement.{statement}
 use Rattle.lower.proofs.tests.input_at_or_above.Tie as tie
 

@@ -1,0 +1,126 @@
+-- How the tests of a building call decide its outcome. Assumes nothing.
+use Prim.Native.Nat.{ℕ, suc, _+_, _<_, _≤_}
+use mathlib.Core.Path.{_≡_, refl, sym, ap, _∙_}
+use mathlib.Core.Bool.{Bool, true, false, _||_, not}
+use mathlib.Core.List.{List, [], _∷_, _++_}
+use native.Mathlib.Omega.{arith}
+use native.Mathlib.Numerals.{add-one}
+use lib.Dec.{leb}
+use lib.ListN.{length, getD, drop}
+use lib.Seq.{drop-cons}
+use borrow.Author.Tests.{leb-false}
+use Rattle.field.specs.declared.extension.Triple.{Triple}
+use Rattle.field.specs.Base.{p}
+use Rattle.circuit.specs.declared.node.Position.{Position}
+use Rattle.circuit.specs.declared.node.Expression.the-variants.{Base, Challenge, Input}
+use Rattle.circuit.specs.Lists.{any}
+use Rattle.circuit.specs.Words.{used, column, constant}
+use Rattle.circuit.specs.NotCircuit.{badRow, badIndex, badWord, badWords, badExpression, notCircuit, badId}
+use Rattle.circuit.specs.Rank.{Checked}
+use Rattle.circuit.specs.Outcomes.{refusal, numbered, outcome}
+use Rattle.circuit.specs.Answers.{refused}
+use Rattle.circuit.proofs.Tests.{neither, or-false}
+use Rattle.circuit.proofs.Valid.{valid-header, header-top}
+use Rattle.circuit.proofs.Refusals.{refusal-none, refusal-here, refusal-next, outcome-refused, outcome-accepted, accepts, no-bad-id, bad-id-here, bad-id-next}
+use Rattle.classes.specs.Find.{Fillable}
+use Rattle.classes.specs.Numbers.{Sized}
+use Rattle.building.specs.declared.Answer.{Answer}
+use Rattle.build.specs.declared.steps.Made.{Made}
+use Rattle.build.specs.declared.steps.Made.the-variants.{At, Full}
+use Rattle.building.specs.Building.{Built, full}
+use Rattle.building.specs.Calls.{building}
+use Rattle.build.specs.Inner.{Stepped}
+use Rattle.building.specs.Told.{toldId}
+use Rattle.build_calls.specs.Answers.{answerOf, ending, Ranked}
+use Rattle.build.proofs.Stepping.{constant-good}
+use Rattle.build.proofs.Runs.{drop-all}
+
+-- the tests of a call
+
+module _ (m : List ℕ) (tests : List (ℕ × Bool)) (b : Built) where
+  pub no-circuit : notCircuit m ≡ true → building m tests b ≡ refused 1 0 m
+  unfolding building
+  no-circuit h = outcome-refused (((1, notCircuit m) ∷ tests) ++ ((6, full m b) ∷ [])) (b .id) (b .circuit) 0 m 0 (refusal-here 1 _ _ h)
+
+  -- a test of its own
+  pub refuses-by : (k : ℕ) → notCircuit m ≡ false → refusal (tests ++ ((6, full m b) ∷ [])) ≡ suc k → building m tests b ≡ refused (suc k) 0 m
+  unfolding building
+  refuses-by k h r = outcome-refused (((1, notCircuit m) ∷ tests) ++ ((6, full m b) ∷ [])) (b .id) (b .circuit) 0 m k (refusal-next 1 _ _ h ∙ r)
+
+  -- none but FULL is left
+  pub only-full : notCircuit m ≡ false → refusal (tests ++ ((6, full m b) ∷ [])) ≡ refusal ((6, full m b) ∷ []) → building m tests b ≡ ending m b
+  unfolding building ending outcome
+  only-full h r = ap (λ (n : ℕ). numbered n (b .id) (b .circuit) 0 m) (refusal-next 1 _ _ h ∙ r)
+
+-- the inner form's answer is the last test's
+pub ends : (m : List ℕ) (b : Built) (r : Made) (a : Answer) (m′ num t least : List ℕ) → a ≡ answerOf r → Stepped m b r m′ num t least → toldId a m′ ≡ ending m b
+unfolding ending
+ends m b (At i) a m′ num t least e s =
+    let w = s .told in
+    rw (e, w .id, w .after) (sym (outcome-accepted ((6, full m b) ∷ []) (b .id) (b .circuit) 0 m (refusal-next 6 _ _ (w .room) ∙ refusal-none)))
+ends m b Full a m′ num t least e s =
+    let w = s .told in
+    rw (e, w .left .same) (sym (outcome-refused ((6, full m b) ∷ []) (b .id) (b .circuit) 0 m 5 (refusal-here 6 _ _ (w .over))))
+
+-- a check that was passed
+
+module _ (m order rank : List ℕ) (answer : Bool) (c : Checked m order rank answer) (passed : not answer ≡ false) where
+  pub checked : notCircuit m ≡ false
+  checked = accepts m answer (c .told) passed
+
+  pub ranked : 4096 ≤ length order → Ranked m order rank
+  ranked l = record { circuit = checked; sorted = c .sorted (c .told ∙ ap not checked); ids = l }
+
+pub tables-fillable : (m order rank num t least : List ℕ) → Ranked m order rank → Sized num t → 4097 ≤ length least → Fillable m order rank num t least
+tables-fillable m order rank num t least r s l = record {
+  orderly = record {
+    circuit = r .circuit;
+    sorted = r .sorted;
+    ids = let a = r .ids in let b = header-top m (valid-header m (r .circuit)) in omega arith;
+    sized = s;
+  };
+  leasts = l;
+}
+
+-- leaves that pass their tests
+
+module _ (m : List ℕ) where
+  pub base-good : (w : ℕ) → badWord w ≡ false → badExpression m (Base w) ≡ false
+  unfolding badExpression
+  base-good w h = h
+
+  pub challenge-good : (k : ℕ) → badIndex k ≡ false → badExpression m (Challenge k) ≡ false
+  unfolding badExpression
+  challenge-good k h = h
+
+  pub input-good : (q : Position) → badRow m q ≡ false → badIndex (column q) ≡ false → badExpression m (Input q) ≡ false
+  unfolding badExpression
+  input-good q r i = or-false (badIndex (column q)) (badRow m q) i r
+
+  pub words-good : (x : Triple) → badWords x ≡ false → badExpression m (constant x) ≡ false
+  unfolding badWords
+  words-good x h =
+      let (a, g) = neither (badWord (x .c0)) (badWord (x .c1) || badWord (x .c2)) h in
+      let (b, c) = neither (badWord (x .c1)) (badWord (x .c2)) g in
+      constant-good m x (record { below0 = leb-false p (x .c0) a; below1 = leb-false p (x .c1) b; below2 = leb-false p (x .c2) c })
+
+-- ids
+
+pub one-twice : (m : List ℕ) (a : ℕ) → badId m (a ∷ a ∷ []) ≡ badId m (a ∷ [])
+unfolding badId any
+one-twice m a = go (leb (used m) a)
+  where
+    go : (b : Bool) → (b || (b || false)) ≡ (b || false)
+    go true = refl
+    go false = refl
+
+module _ (m ids : List ℕ) (k : ℕ) where
+  -- the loop over the ids: those before the k-th are nodes
+  pub bad-here : k < length ids → used m ≤ getD ids k 0 → badId m (drop k ids) ≡ badId m ids → true ≡ badId m ids
+  bad-here l h e = sym (bad-id-here m (getD ids k 0) (drop (suc k) ids) h) ∙ ap (badId m) (sym (drop-cons ids k 0 l)) ∙ e
+
+  pub bad-next : k < length ids → getD ids k 0 < used m → badId m (drop k ids) ≡ badId m ids → badId m (drop (k + 1) ids) ≡ badId m ids
+  bad-next l h e = rw add-one (sym (bad-id-next m (getD ids k 0) (drop (suc k) ids) h) ∙ ap (badId m) (sym (drop-cons ids k 0 l)) ∙ e)
+
+  pub bad-none : length ids ≤ k → badId m (drop k ids) ≡ badId m ids → false ≡ badId m ids
+  bad-none l e = sym (no-bad-id m) ∙ ap (badId m) (sym (drop-all k ids l)) ∙ e

@@ -1,0 +1,2 @@
+// The public calls of building: document 01, "Building".
+pub mod calls;

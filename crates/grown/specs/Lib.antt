@@ -1,0 +1,3 @@
+-- Reading order: as listed.
+pub mod Results
+pub mod Grown
