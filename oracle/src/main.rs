@@ -6,7 +6,9 @@
 //!                                    !sum ID...  the sum of these decimal ids
 //!                                    !dump SEED  every reading, as records
 //!   circuit-oracle --examples FIRST               a file of vectors, hand-written
-//!   circuit-oracle --generate THEME FIRST COUNT   a file of vectors, random
+//!   circuit-oracle --generate THEME FIRST COUNT [frames]
+//!                                  a file of vectors, random; with `frames`
+//!                                  sums are written as additions
 //!   circuit-oracle --differences                  what the Rust does where we refuse
 //!   circuit-oracle --bench CIRCUIT... [TARGET]    the Rust's times, see bench.rs
 //!   circuit-oracle --bench-frames CIRCUIT...      that circuit as frames
@@ -46,7 +48,10 @@ fn main() {
         Some("--generate") => {
             let theme = generate::THEMES.iter().find(|(name, _)| *name == rest[0]);
             let (name, purpose) = theme.expect("a theme");
-            let grow = |to: &mut Recorder| generate::generate(to, name, number(1), number(2));
+            let grow = |to: &mut Recorder| {
+                to.frames_only = rest.get(3).is_some_and(|word| word == "frames");
+                generate::generate(to, name, number(1), number(2));
+            };
             vectors(name, purpose, grow);
         }
         Some("--differences") => differences::differences(),

@@ -37,6 +37,8 @@ impl Tally {
 pub struct Recorder {
     pub text: String,
     pub tally: Tally,
+    /// Sums as additions, since frames have none.
+    pub frames_only: bool,
     circuit: Box<dyn Circuit>,
     seed: u64,
     /// The circuit at this moment, for the choices of the generator.
@@ -50,6 +52,7 @@ impl Recorder {
         Self {
             text: String::new(),
             tally: Tally::default(),
+            frames_only: false,
             circuit: start(1),
             seed: 0,
             nodes: vec![],
@@ -82,6 +85,11 @@ impl Recorder {
     }
 
     pub fn sum(&mut self, ids: &[u16]) -> u16 {
+        if self.frames_only {
+            let (first, rest) = ids.split_first().expect("an id");
+            let add = |sum, &id| self.build(Call::Add(sum, id));
+            return rest.iter().fold(*first, add);
+        }
         let answer = self.circuit.sum(ids);
         write!(self.text, "s{:02x}", ids.len()).unwrap();
         for id in ids {

@@ -8,18 +8,12 @@ use native.Mathlib.Numerals.{add-one}
 use lib.Dec.{leb}
 use lib.ListN.{length, getD, drop}
 use lib.Seq.{drop-cons}
-use borrow.Author.Tests.{leb-false}
-use Rattle.field.specs.declared.extension.Triple.{Triple}
-use Rattle.field.specs.Base.{p}
-use Rattle.circuit.specs.declared.node.Position.{Position}
-use Rattle.circuit.specs.declared.node.Expression.the-variants.{Base, Challenge, Input}
 use Rattle.circuit.specs.Lists.{any}
-use Rattle.circuit.specs.Words.{used, column, constant}
-use Rattle.circuit.specs.NotCircuit.{badRow, badIndex, badWord, badWords, badExpression, notCircuit, badId}
+use Rattle.circuit.specs.Words.{used}
+use Rattle.circuit.specs.NotCircuit.{notCircuit, badId}
 use Rattle.circuit.specs.Rank.{Checked}
 use Rattle.circuit.specs.Outcomes.{refusal, numbered, outcome}
 use Rattle.circuit.specs.Answers.{refused}
-use Rattle.circuit.proofs.Tests.{neither, or-false}
 use Rattle.circuit.proofs.Valid.{valid-header, header-top}
 use Rattle.circuit.proofs.Refusals.{refusal-none, refusal-here, refusal-next, outcome-refused, outcome-accepted, accepts, no-bad-id, bad-id-here, bad-id-next}
 use Rattle.classes.specs.Find.{Fillable}
@@ -32,7 +26,6 @@ use Rattle.building.specs.Calls.{building}
 use Rattle.build.specs.Inner.{Stepped}
 use Rattle.building.specs.Told.{toldId}
 use Rattle.build_calls.specs.Answers.{answerOf, ending, Ranked}
-use Rattle.build.proofs.Stepping.{constant-good}
 use Rattle.build.proofs.Runs.{drop-all}
 
 -- the tests of a call
@@ -81,28 +74,6 @@ tables-fillable m order rank num t least r s l = record {
   };
   leasts = l;
 }
-
--- leaves that pass their tests
-
-module _ (m : List ℕ) where
-  pub base-good : (w : ℕ) → badWord w ≡ false → badExpression m (Base w) ≡ false
-  unfolding badExpression
-  base-good w h = h
-
-  pub challenge-good : (k : ℕ) → badIndex k ≡ false → badExpression m (Challenge k) ≡ false
-  unfolding badExpression
-  challenge-good k h = h
-
-  pub input-good : (q : Position) → badRow m q ≡ false → badIndex (column q) ≡ false → badExpression m (Input q) ≡ false
-  unfolding badExpression
-  input-good q r i = or-false (badIndex (column q)) (badRow m q) i r
-
-  pub words-good : (x : Triple) → badWords x ≡ false → badExpression m (constant x) ≡ false
-  unfolding badWords
-  words-good x h =
-      let (a, g) = neither (badWord (x .c0)) (badWord (x .c1) || badWord (x .c2)) h in
-      let (b, c) = neither (badWord (x .c1)) (badWord (x .c2)) g in
-      constant-good m x (record { below0 = leb-false p (x .c0) a; below1 = leb-false p (x .c1) b; below2 = leb-false p (x .c2) c })
 
 -- ids
 

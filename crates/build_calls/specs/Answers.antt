@@ -5,7 +5,7 @@ use mathlib.Core.Bool.{false}
 use mathlib.Core.List.{List, [], _∷_}
 use lib.ListN.{length}
 use Rattle.circuit.specs.Words.{used}
-use Rattle.circuit.specs.NotCircuit.{notCircuit, badExpression, badId}
+use Rattle.circuit.specs.NotCircuit.{notCircuit, badId}
 use Rattle.circuit.specs.Rank.{Sorted}
 use Rattle.circuit.specs.Outcomes.{Outcome, outcome}
 use Rattle.building.specs.declared.Answer.{Answer}
@@ -13,8 +13,8 @@ use Rattle.building.specs.declared.Answer.the-variants.{Id, Refused}
 use Rattle.build.specs.declared.steps.Made.{Made}
 use Rattle.build.specs.declared.steps.Made.the-variants.{At, Full}
 use Rattle.build_calls.specs.declared.calls.Request.{Request}
-use Rattle.build_calls.specs.declared.calls.Request.the-variants.{Leaf, Operation, Negate, Subtract}
-use Rattle.building.specs.Building.{Built, findOrMake, operate, negated, subtracted, full}
+use Rattle.build_calls.specs.declared.calls.Request.the-variants.{Operation, Negate, Subtract}
+use Rattle.building.specs.Building.{Built, operate, negated, subtracted, full}
 use Rattle.build.specs.Inner.{Buildable}
 
 -- of an inner form
@@ -28,14 +28,12 @@ ending m b = outcome ((6, full m b) ∷ []) (b .id) (b .circuit) 0 m
 
 -- what is asked of a circuit
 abbrev pub requested : List ℕ → Request → Built
-requested m (Leaf e) = findOrMake m e
 requested m (Operation o l r) = operate m o l r
 requested m (Negate a) = negated m a
 requested m (Subtract a b) = subtracted m a b
 
--- its expression can be a node, its ids are nodes
+-- its ids are nodes
 abbrev pub Good : List ℕ → Request → Type 0
-Good m (Leaf e) = badExpression m e ≡ false
 Good m (Operation o l r) = (l < used m) × (r < used m)
 Good m (Negate a) = a < used m
 Good m (Subtract a b) = (a < used m) × (b < used m)

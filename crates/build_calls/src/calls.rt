@@ -1,9 +1,9 @@
 // The public calls of building. They ask nothing of the words that are lent: all are checked, each time. The tests stand in document 01's order;
 // FULL, which comes last, is the inner forms' answer.
+use crate::leaves::leaf;
 use build::constants::constant;
 use build::several;
 use build::steps::Made;
-use build::steps::find_or_make;
 use build::steps::operate;
 use building::Answer;
 use circuit::check::bad_index;
@@ -37,9 +37,8 @@ ghost use Rattle.build.specs.Inner.{Stepped};
 ghost use Rattle.building.specs.Told.{toldId};
 ghost use Rattle.build_calls.specs.Answers.{answerOf, ending, requested, Good, Requestable, Grantable, Addable};
 
-// What is asked of a circuit, once the tests of its own have passed. A sum is asked by a list of ids.
+// What is asked of nodes, once the tests of its own have passed. A sum is asked by a list of ids.
 pub enum Request {
-    Leaf(Expression),
     Operation(Op, u64, u64),
     Negate(u64),
     Subtract(u64, u64),
@@ -65,7 +64,6 @@ fn step(
     ensures { λ r. ⌜ Stepped (now (m .entry)) (requested (now (m .entry)) request) r (now (m .exit)) (now (numbers .exit)) (now (table .exit)) (now (least .exit)) ⌝ }
 {
     match request {
-        Request::Leaf(e) => find_or_make(m, numbers, table, least, e),
         Request::Operation(o, l, r) => operate(m, numbers, table, least, o, l, r),
         Request::Negate(a) => several::negate(m, numbers, table, least, a),
         Request::Subtract(a, b) => several::subtract(m, numbers, table, least, a, b),
@@ -110,7 +108,7 @@ pub fn input(m: &mut [u64], q: Position) -> Answer
     if bad_index(column_of(q)) {
         return Answer::Refused(BAD_INDEX);
     }
-    granted(m, &order, &rank, Request::Leaf(Expression::Input(q)))
+    leaf(m, Expression::Input(q))
 }
 
 // A challenge index.
@@ -125,7 +123,7 @@ pub fn challenge(m: &mut [u64], k: u64) -> Answer
     if bad_index(k) {
         return Answer::Refused(BAD_INDEX);
     }
-    granted(m, &order, &rank, Request::Leaf(Expression::Challenge(k)))
+    leaf(m, Expression::Challenge(k))
 }
 
 // A base constant.
@@ -140,7 +138,7 @@ pub fn base_constant(m: &mut [u64], w: u64) -> Answer
     if bad_word(w) {
         return Answer::Refused(BAD_WORD);
     }
-    granted(m, &order, &rank, Request::Leaf(Expression::Base(w)))
+    leaf(m, Expression::Base(w))
 }
 
 pub fn zero(m: &mut [u64]) -> Answer
@@ -173,7 +171,7 @@ pub fn extension_constant(m: &mut [u64], x: Triple) -> Answer
     if bad_words(x) {
         return Answer::Refused(BAD_WORD);
     }
-    granted(m, &order, &rank, Request::Leaf(constant(x)))
+    leaf(m, constant(x))
 }
 
 // What is asked of two nodes, or of one as both.

@@ -28,6 +28,10 @@ five free = sample 1 free (Input (Main 0) ∷ Input (Main 1) ∷ Base 0 ∷ Base
 unfoldable pub damaged : ℕ → List ℕ
 damaged free = loosen 2 (sample 1 free (Input (Main 0) ∷ Input (Main 1) ∷ Operation Add 0 1 ∷ Operation Add 2 0 ∷ []))
 
+-- 0, 0, 1, 1: no call of ours makes an equal leaf twice
+unfoldable pub twins : List ℕ
+twins = sample 1 0 (Base 0 ∷ Base 0 ∷ Base 1 ∷ Base 1 ∷ [])
+
 -- what is worked out, and what document 01 says
 unfoldable pub table : List (List ℕ × List ℕ)
 table =
@@ -41,6 +45,8 @@ table =
     ∷ (map (λ r. operationCall (five 0) Add 0 r .values) (2 ∷ []) ++ map (λ l. operationCall (five 0) Add l 0 .values) (2 ∷ []), 0 ∷ 0 ∷ [])
     ∷ (map (λ r. operationCall (five 0) Multiply 4 r .values) (3 ∷ 2 ∷ []) ++ map (λ l. operationCall (five 0) Multiply l 4 .values) (3 ∷ 2 ∷ []), 4 ∷ 2 ∷ 4 ∷ 2 ∷ [])
     ∷ (map (λ r. operationCall (five 0) Multiply 2 r .values) (2 ∷ 3 ∷ []) ++ (operationCall (five 0) Multiply 3 2 .values ∷ []), 2 ∷ 2 ∷ 2 ∷ [])
+    -- in that order, which can be seen where two leaves are equal
+    ∷ (operationCall twins Add 0 1 .values ∷ operationCall twins Multiply 2 3 .values ∷ operationCall twins Multiply 0 1 .values ∷ [], 0 ∷ 2 ∷ 1 ∷ [])
     -- two constants fold to a constant leaf; their own leaves stay
     ∷ (shown (operationCall (five 1) Add 3 3), 0 ∷ 5 ∷ 6 ∷ [])
     ∷ (take 6 (drop (offset 5) (operationCall (five 1) Add 3 3 .lent)), 0 ∷ 2 ∷ 0 ∷ 0 ∷ 1 ∷ 0 ∷ [])
@@ -67,5 +73,5 @@ table =
     ∷ []
 
 pub examples : T (agree table)
-unfolding buildComputes shown five damaged table
+unfolding buildComputes shown five damaged twins table
 examples = tt

@@ -1,3 +1,4 @@
 -- Reading order: as listed.
 pub mod Results
 pub mod Grown
+pub mod Invariants

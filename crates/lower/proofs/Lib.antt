@@ -9,3 +9,7 @@ pub mod Along
 pub mod Substitution
 pub mod Begins
 pub mod Permits
+pub mod Advances
+pub mod Decides
+pub mod Turns
+pub mod Once

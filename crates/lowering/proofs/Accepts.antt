@@ -29,12 +29,12 @@ use Rattle.lowering.proofs.ListLaws.{or-false, any-false, upTo-in}
 use Rattle.lowering.proofs.Words.{look, look-lt, look-is, Sound}
 use Rattle.lowering.proofs.OneMore.{Taken}
 
-peel : (n : ℕ) (b : Bool) (ts : List (ℕ × Bool)) → refusal ((suc n, b) ∷ ts) ≡ 0 → (b ≡ false) × (refusal ts ≡ 0)
+pub peel : (n : ℕ) (b : Bool) (ts : List (ℕ × Bool)) → refusal ((suc n, b) ∷ ts) ≡ 0 → (b ≡ false) × (refusal ts ≡ 0)
 unfolding refusal
 peel n true ts h = absurd (omega arith)
 peel n false ts h = (refl, h)
 
-number-is : {A L : Type 0} (n : ℕ) (values : A) (after : L) (zeros : A) (lent : L) → numbered n values after zeros lent .number ≡ n
+pub number-is : {A L : Type 0} (n : ℕ) (values : A) (after : L) (zeros : A) (lent : L) → numbered n values after zeros lent .number ≡ n
 number-is zero values after zeros lent = refl
 number-is (suc n) values after zeros lent = refl
 

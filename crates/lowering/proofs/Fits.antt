@@ -26,7 +26,7 @@ use Rattle.lowering.proofs.OneMore.{State}
 use Rattle.lowering.proofs.Loops.{Ran, loop-ran}
 use Rattle.lowering.proofs.Fills.{start}
 use Rattle.lowering.proofs.Accepts.{First, Then, accepted, columns-start, first-tests, lent-is, list-tests, rooted-start, tests, then-tests}
-use Rattle.lowering.proofs.Theorem.{demand-some, lowered-none}
+use Rattle.lowering.proofs.Theorem.{demand-some, lowered-none, state-start}
 
 -- the places lie in the lent words
 limit-inside : (m : List ℕ) → 0 < limit m → 2 + 6 * limit m ≤ length m
@@ -110,14 +110,10 @@ in-place T mc ac lent h =
           valid = f .circuit;
         })
     go f true e g =
-        let s : Sound (lent .circuit) = valid-sound (lent .circuit) (f .circuit) in
         let t : Then mc ac (lent .circuit) (lent .roots) = then-tests T mc ac lent g in
         let (lm, la) = list-tests T mc ac lent g in
-        let rooted : Rooted (look (lent .circuit)) (lent .roots) = rooted-start (lent .circuit) (lent .roots) s (f .ids) in
         let x : Lowering = lowered T mc ac (lent .circuit) (lent .roots) in
-        let d : Fitted (lent .circuit) (lent .roots) (lowered T mc ac (lent .circuit) (lent .roots)) = fits-some T mc ac (lent .circuit) (lent .roots) (f .target)
-        (record { sound = s; rooted = rooted; regs = all-registered (lent .circuit) (lent .roots) rooted (t .none-loose); columns = columns-start mc ac (lent .circuit) (lent .roots) (t .columns) })
-        e (t .room) (t .columns) (proper-of (lent .circuit) (f .circuit)) in
+        let d : Fitted (lent .circuit) (lent .roots) (lowered T mc ac (lent .circuit) (lent .roots)) = fits-some T mc ac (lent .circuit) (lent .roots) (f .target) (state-start T mc ac lent f t) e (t .room) (t .columns) (proper-of (lent .circuit) (f .circuit)) in
         record {
           nodes = d .nodes;
           circuit = d .circuit;

@@ -260,6 +260,10 @@ module _ (s n : ℕ) (m : List ℕ) (room : 2 + 6 * used m ≤ length m) (hs : s
   pub redirected-mark-word : (i : ℕ) → word m i 4 ≤ 1 → word (redirected m s n) i 4 ≤ 1
   redirected-mark-word i h = rw (all-parts, part-mark-word (used m) i) (cut-mark-word i h)
 
+  -- the chosen node is loose
+  pub redirected-loose : registered (redirected m s n) s ≡ false
+  redirected-loose = ap (λ (l : List ℕ). registered l s) all-parts ∙ part-mark (used m) s ∙ cut-mark
+
   pub redirected-mark : (i : ℕ) → i ≢ s → registered (redirected m s n) i ≡ registered m i
   redirected-mark i h = ap (λ (l : List ℕ). registered l i) all-parts ∙ part-mark (used m) i ∙ ap (λ (x : Node). x .registered) (cut-other i h)
 

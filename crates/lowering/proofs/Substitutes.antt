@@ -27,7 +27,7 @@ use Rattle.lowering.proofs.Count.{unf-some}
 use Rattle.lowering.proofs.Words.{look, look-lt, Sound}
 use Rattle.lowering.proofs.Proper.{Proper, made-proper, redirected-proper}
 use Rattle.lowering.proofs.Made.{made-used, made-length, made-old, made-mark, look-made-old, look-made-new, look-made-back}
-use Rattle.lowering.proofs.Redirects.{redirected-used, redirected-room, redirected-length, redirected-mark, redirected-kept, redirected-turned, redirected-leaf}
+use Rattle.lowering.proofs.Redirects.{redirected-used, redirected-room, redirected-length, redirected-loose, redirected-mark, redirected-kept, redirected-turned, redirected-leaf}
 use Rattle.lowering.proofs.Finds.{found, Grew, made-sound}
 use Rattle.lowering.proofs.Constraints.{Difference, HasMinus, operation-at, subtracted-got}
 
@@ -92,7 +92,7 @@ module _ (m : List ℕ) (sound : Sound m) (s : ℕ) (u : Shape) (large : 3 ≤ d
   s-used : s < used one
   s-used = omega (arith, s-old, one-used)
 
-  move-two : Move (look m) (look two) s (used m) y u
+  pub move-two : Move (look m) (look two) s (used m) y u
   unfolding two
   move-two =
       record {
@@ -133,13 +133,17 @@ module _ (m : List ℕ) (sound : Sound m) (s : ℕ) (u : Shape) (large : 3 ≤ d
   pub three-sound : Sound (three .circuit)
   three-sound = grew-three .sound
 
-  one-mark : (i : ℕ) → i < used m → registered one i ≡ registered m i
+  pub one-mark : (i : ℕ) → i < used m → registered one i ≡ registered m i
   unfolding one
   one-mark i h = ap (λ (x : Node). x .registered) (made-old m (Input y) (sound .room) i h)
 
-  two-mark : (i : ℕ) → i ≢ s → registered two i ≡ registered one i
+  pub two-mark : (i : ℕ) → i ≢ s → registered two i ≡ registered one i
   unfolding two
   two-mark i h = redirected-mark s (used m) one (one-sound .room) s-used i h
+
+  pub two-loose : registered two s ≡ false
+  unfolding two
+  two-loose = redirected-loose s (used m) one (one-sound .room) s-used
 
   two-turned : (i : ℕ) (e : Expr) → registered m i ≡ true → i ≢ s → look m i ≡ some e → look two i ≡ some (redirE s (used m) e)
   unfolding two
@@ -199,6 +203,9 @@ module _ (m : List ℕ) (sound : Sound m) (s : ℕ) (u : Shape) (large : 3 ≤ d
 
   pub has-minus : HasMinus (three .circuit)
   has-minus = difference .has
+
+  pub two-more : suc (used m) ≤ used (three .circuit)
+  two-more = omega (arith, grew-three .more, two-used)
 
   pub nodes-grow : used m ≤ used (three .circuit)
   nodes-grow = omega (arith, grew-three .more, two-used)

@@ -120,6 +120,13 @@ demand-some T mc ac m roots two begin high = go (loop (M m roots) T mc ac (start
             let (t, w, d) = low-constraint T mc ac m roots two x begin r i (constraint T mc ac m roots two x begin r i k) in
             omega (arith, degree-is (x .circuit) t i w)
 
+-- what an accepted lowering starts from, where some root is too high
+pub state-start : (T mc ac : ℕ) (lent : Lowering) → First T (lent .circuit) (lent .roots) → Then mc ac (lent .circuit) (lent .roots) → State mc ac (start (lent .circuit) (lent .roots))
+state-start T mc ac lent f t =
+    let s : Sound (lent .circuit) = valid-sound (lent .circuit) (f .circuit) in
+    let rooted : Rooted (look (lent .circuit)) (lent .roots) = rooted-start (lent .circuit) (lent .roots) s (f .ids) in
+    record { sound = s; rooted = rooted; regs = all-registered (lent .circuit) (lent .roots) rooted (t .none-loose); columns = columns-start mc ac (lent .circuit) (lent .roots) (t .columns) }
+
 -- Demand 3: for every lowering that is accepted, of any lent words
 pub demand3 : (target mainCount auxCount : ℕ) (lent : Lowering) → lowerCall target mainCount auxCount lent .number ≡ 0 → Demand3 target mainCount auxCount (lent .circuit) (lent .roots) (returned (lowerCall target mainCount auxCount lent))
 demand3 T mc ac lent h =
@@ -130,10 +137,4 @@ demand3 T mc ac lent h =
     go : First T (lent .circuit) (lent .roots) → (b : Bool) → tooHigh T (lent .circuit) (lent .roots) ≡ b → refusal (if b then testsThen T mc ac lent else []) ≡ 0
         → Demand3 T mc ac (lent .circuit) (lent .roots) (lowered T mc ac (lent .circuit) (lent .roots))
     go f false e g = rw (lowered-none T mc ac (lent .circuit) (lent .roots) e) (demand-none T mc ac (lent .circuit) (lent .roots) e)
-    go f true e g =
-        let s : Sound (lent .circuit) = valid-sound (lent .circuit) (f .circuit) in
-        let t : Then mc ac (lent .circuit) (lent .roots) = then-tests T mc ac lent g in
-        let rooted : Rooted (look (lent .circuit)) (lent .roots) = rooted-start (lent .circuit) (lent .roots) s (f .ids) in
-        demand-some T mc ac (lent .circuit) (lent .roots) (f .target)
-        (record { sound = s; rooted = rooted; regs = all-registered (lent .circuit) (lent .roots) rooted (t .none-loose); columns = columns-start mc ac (lent .circuit) (lent .roots) (t .columns) })
-        e
+    go f true e g = demand-some T mc ac (lent .circuit) (lent .roots) (f .target) (state-start T mc ac lent f (then-tests T mc ac lent g)) e

@@ -1,7 +1,7 @@
-use mathlib.Core.Path.{sym, _∙_}
+use mathlib.Core.Path.{refl, sym, _∙_}
 use Rattle.circuit.proofs.Refusals.{refuses, refusal-here, refusal-next}
 use Rattle.building.specs.Calls.{baseCall}
-use Rattle.build_calls.proofs.Endings.{no-circuit, refuses-by, only-full, checked, ranked, base-good}
+use Rattle.build_calls.proofs.Endings.{no-circuit, refuses-by, only-full, checked}
 use borrow.Author.Needs.{needs}
 use Rattle.build_calls.proofs.calls.base_constant.Statement.{statement}
 use Rattle.build_calls.proofs.calls.base_constant.Tie as tie
@@ -40,17 +40,9 @@ returns-2 : tie.Need-returns-2
 unfolding baseCall
 returns-2 c = sym (refuses-by _ _ _ 4 (checked _ _ _ _ (c .before .before .before .before .before .check .ensures) (c .before .before .if1 .left)) (refusal-here 5 _ _ (sym (c .before .bad-word .ensures) ∙ c .if2 .taken)))
 
--- src/calls.rt:135:16
-slice-aggregate-granted : tie.Need-slice-aggregate-granted
-slice-aggregate-granted c = search needs
-
--- src/calls.rt:135:24
-slice-aggregate-granted-2 : tie.Need-slice-aggregate-granted-2
-slice-aggregate-granted-2 c = search needs
-
 -- src/calls.rt:135:5
-granted-requires : tie.Need-granted-requires
-granted-requires c κs = record { ranked = ranked _ _ _ _ (c .before .before .before .before .before .before .before .before .check .ensures) (c .before .before .before .before .before .if1 .left) (search needs); good = base-good _ _ (sym (c .before .before .before .before .bad-word .ensures) ∙ c .before .before .before .if2 .left) }
+leaf-requires : tie.Need-leaf-requires
+leaf-requires c κs = record { circuit = checked _ _ _ _ (c .before .before .before .before .before .before .check .ensures) (c .before .before .before .if1 .left); leaf = refl }
 
 -- src/calls.rt:124:1
 same-length-3 : tie.Need-same-length-3
@@ -59,7 +51,7 @@ same-length-3 c = search needs
 -- src/calls.rt:124:1
 returns-3 : tie.Need-returns-3
 unfolding baseCall
-returns-3 c = c .before .before .granted .ensures ∙ sym (only-full _ _ _ (checked _ _ _ _ (c .before .before .before .before .before .before .before .before .before .before .before .check .ensures) (c .before .before .before .before .before .before .before .before .if1 .left)) (refusal-next 5 _ _ (sym (c .before .before .before .before .before .before .before .bad-word .ensures) ∙ c .before .before .before .before .before .before .if2 .left)))
+returns-3 c = c .before .before .leaf .ensures ∙ sym (only-full _ _ _ (checked _ _ _ _ (c .before .before .before .before .before .before .before .before .before .check .ensures) (c .before .before .before .before .before .before .if1 .left)) (refusal-next 5 _ _ (sym (c .before .before .before .before .before .bad-word .ensures) ∙ c .before .before .before .before .if2 .left)))
 
 pub base-constant-spec : {M : Type 1} → statement M
 base-constant-spec =
@@ -73,8 +65,6 @@ base-constant-spec =
     bad-word-requires
     same-length-2
     returns-2
-    slice-aggregate-granted
-    slice-aggregate-granted-2
-    granted-requires
+    leaf-requires
     same-length-3
     returns-3)

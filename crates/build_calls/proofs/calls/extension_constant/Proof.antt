@@ -1,7 +1,8 @@
 use mathlib.Core.Path.{sym, _∙_}
 use Rattle.circuit.proofs.Refusals.{refuses, refusal-here, refusal-next}
 use Rattle.building.specs.Calls.{extensionCall}
-use Rattle.build_calls.proofs.Endings.{no-circuit, refuses-by, only-full, checked, ranked, words-good}
+use Rattle.build_calls.proofs.Endings.{no-circuit, refuses-by, only-full, checked}
+use Rattle.build_calls.proofs.Wording.{constant-leaf}
 use borrow.Author.Needs.{needs}
 use Rattle.build_calls.proofs.calls.extension_constant.Statement.{statement}
 use Rattle.build_calls.proofs.calls.extension_constant.Tie as tie
@@ -40,21 +41,13 @@ returns-2 : tie.Need-returns-2
 unfolding extensionCall
 returns-2 c = sym (refuses-by _ _ _ 4 (checked _ _ _ _ (c .before .before .before .before .before .check .ensures) (c .before .before .if1 .left)) (refusal-here 5 _ _ (sym (c .before .bad-words .ensures) ∙ c .if2 .taken)))
 
--- src/calls.rt:168:16
-slice-aggregate-granted : tie.Need-slice-aggregate-granted
-slice-aggregate-granted c = search needs
-
--- src/calls.rt:168:24
-slice-aggregate-granted-2 : tie.Need-slice-aggregate-granted-2
-slice-aggregate-granted-2 c = search needs
-
 -- src/calls.rt:168:45
 constant-requires : tie.Need-constant-requires
 constant-requires c κs = search needs
 
 -- src/calls.rt:168:5
-granted-requires : tie.Need-granted-requires
-granted-requires c κs = record { ranked = ranked _ _ _ _ (c .before .before .before .before .before .before .before .before .before .check .ensures) (c .before .before .before .before .before .before .if1 .left) (search needs); good = rw (c .constant .ensures) (words-good _ _ (sym (c .before .before .before .before .before .bad-words .ensures) ∙ c .before .before .before .before .if2 .left)) }
+leaf-requires : tie.Need-leaf-requires
+leaf-requires c κs = record { circuit = checked _ _ _ _ (c .before .before .before .before .before .before .before .check .ensures) (c .before .before .before .before .if1 .left); leaf = rw (c .constant .ensures) (constant-leaf _) }
 
 -- src/calls.rt:157:1
 same-length-3 : tie.Need-same-length-3
@@ -63,7 +56,7 @@ same-length-3 c = search needs
 -- src/calls.rt:157:1
 returns-3 : tie.Need-returns-3
 unfolding extensionCall
-returns-3 c = rw (c .before .before .before .constant .ensures) at (c .before .before .granted .ensures) ∙ sym (only-full _ _ _ (checked _ _ _ _ (c .before .before .before .before .before .before .before .before .before .before .before .before .check .ensures) (c .before .before .before .before .before .before .before .before .before .if1 .left)) (refusal-next 5 _ _ (sym (c .before .before .before .before .before .before .before .before .bad-words .ensures) ∙ c .before .before .before .before .before .before .before .if2 .left)))
+returns-3 c = rw (c .before .before .before .constant .ensures) at (c .before .before .leaf .ensures) ∙ sym (only-full _ _ _ (checked _ _ _ _ (c .before .before .before .before .before .before .before .before .before .before .check .ensures) (c .before .before .before .before .before .before .before .if1 .left)) (refusal-next 5 _ _ (sym (c .before .before .before .before .before .before .bad-words .ensures) ∙ c .before .before .before .before .before .if2 .left)))
 
 pub extension-constant-spec : {M : Type 1} → statement M
 extension-constant-spec =
@@ -77,9 +70,7 @@ extension-constant-spec =
     bad-words-requires
     same-length-2
     returns-2
-    slice-aggregate-granted
-    slice-aggregate-granted-2
     constant-requires
-    granted-requires
+    leaf-requires
     same-length-3
     returns-3)

@@ -1,9 +1,9 @@
-use mathlib.Core.Path.{sym, ap, _∙_}
+use mathlib.Core.Path.{refl, sym, ap, _∙_}
 use Rattle.circuit.specs.NotCircuit.{badIndex}
 use Rattle.circuit.proofs.Refusals.{refuses, refusal-here, refusal-next}
 use Rattle.circuit.proofs.Valid.{valid-length}
 use Rattle.building.specs.Calls.{inputCall}
-use Rattle.build_calls.proofs.Endings.{no-circuit, refuses-by, only-full, checked, ranked, input-good}
+use Rattle.build_calls.proofs.Endings.{no-circuit, refuses-by, only-full, checked}
 use borrow.Author.Needs.{needs}
 use Rattle.build_calls.proofs.calls.input.Statement.{statement}
 use Rattle.build_calls.proofs.calls.input.Tie as tie
@@ -59,17 +59,9 @@ returns-3 : tie.Need-returns-3
 unfolding inputCall
 returns-3 c = sym (refuses-by _ _ _ 3 (checked _ _ _ _ (c .before .before .before .before .before .before .before .before .before .check .ensures) (c .before .before .before .before .before .before .if1 .left)) (refusal-next 3 _ _ (sym (c .before .before .before .before .bad-row .ensures) ∙ c .before .before .before .if2 .left) ∙ refusal-here 4 _ _ (ap badIndex (sym (c .before .before .column-of .ensures)) ∙ sym (c .before .bad-index .ensures) ∙ c .if3 .taken)))
 
--- src/calls.rt:105:16
-slice-aggregate-granted : tie.Need-slice-aggregate-granted
-slice-aggregate-granted c = search needs
-
--- src/calls.rt:105:24
-slice-aggregate-granted-2 : tie.Need-slice-aggregate-granted-2
-slice-aggregate-granted-2 c = search needs
-
 -- src/calls.rt:105:5
-granted-requires : tie.Need-granted-requires
-granted-requires c κs = record { ranked = ranked _ _ _ _ (c .before .before .before .before .before .before .before .before .before .before .before .before .check .ensures) (c .before .before .before .before .before .before .before .before .before .if1 .left) (search needs); good = input-good _ _ (sym (c .before .before .before .before .before .before .before .bad-row .ensures) ∙ c .before .before .before .before .before .before .if2 .left) (ap badIndex (sym (c .before .before .before .before .before .column-of .ensures)) ∙ sym (c .before .before .before .before .bad-index .ensures) ∙ c .before .before .before .if3 .left) }
+leaf-requires : tie.Need-leaf-requires
+leaf-requires c κs = record { circuit = checked _ _ _ _ (c .before .before .before .before .before .before .before .before .before .before .check .ensures) (c .before .before .before .before .before .before .before .if1 .left); leaf = refl }
 
 -- src/calls.rt:91:1
 same-length-4 : tie.Need-same-length-4
@@ -78,7 +70,7 @@ same-length-4 c = search needs
 -- src/calls.rt:91:1
 returns-4 : tie.Need-returns-4
 unfolding inputCall
-returns-4 c = c .before .before .granted .ensures ∙ sym (only-full _ _ _ (checked _ _ _ _ (c .before .before .before .before .before .before .before .before .before .before .before .before .before .before .before .check .ensures) (c .before .before .before .before .before .before .before .before .before .before .before .before .if1 .left)) (refusal-next 3 _ _ (sym (c .before .before .before .before .before .before .before .before .before .before .bad-row .ensures) ∙ c .before .before .before .before .before .before .before .before .before .if2 .left) ∙ refusal-next 4 _ _ (ap badIndex (sym (c .before .before .before .before .before .before .before .before .column-of .ensures)) ∙ sym (c .before .before .before .before .before .before .before .bad-index .ensures) ∙ c .before .before .before .before .before .before .if3 .left)))
+returns-4 c = c .before .before .leaf .ensures ∙ sym (only-full _ _ _ (checked _ _ _ _ (c .before .before .before .before .before .before .before .before .before .before .before .before .before .check .ensures) (c .before .before .before .before .before .before .before .before .before .before .if1 .left)) (refusal-next 3 _ _ (sym (c .before .before .before .before .before .before .before .before .bad-row .ensures) ∙ c .before .before .before .before .before .before .before .if2 .left) ∙ refusal-next 4 _ _ (ap badIndex (sym (c .before .before .before .before .before .before .column-of .ensures)) ∙ sym (c .before .before .before .before .before .bad-index .ensures) ∙ c .before .before .before .before .if3 .left)))
 
 pub input-spec : {M : Type 1} → statement M
 input-spec =
@@ -96,8 +88,6 @@ input-spec =
     bad-index-requires
     same-length-3
     returns-3
-    slice-aggregate-granted
-    slice-aggregate-granted-2
-    granted-requires
+    leaf-requires
     same-length-4
     returns-4)
