@@ -17,7 +17,7 @@ use Rattle.lower.specs.declared.substitute.Constraint.{Constraint}
 use Rattle.lower.specs.declared.calls.Progress.{Progress}
 use Rattle.lower.specs.Survey.{chosenNext, nextOf}
 use Rattle.lower.specs.Substituting.{newInput, turned, difference, Substitutable, Replaced}
-use Rattle.lower.specs.Advancing.{Holds, chosen, advanced, Ready, Advanced}
+use Rattle.lower.specs.Advancing.{Holds, Added, chosen, advanced, Ready, Advanced}
 
 -- what the next choice tells
 
@@ -41,6 +41,13 @@ told-done T m roots e = go (tooHigh T m roots) e
 free-place : (xs l : List ℕ) → length xs < length (written xs l) → length xs < length l
 unfolding written
 free-place xs l h = omega (arith, length-append xs (drop (length xs) l), length-drop (length xs) l)
+
+-- one constraint more in its list
+one-written : (xs l list : List ℕ) (n q : ℕ) → list ≡ written xs l → n ≡ length xs → n < length list → set list n q ≡ written (xs ++ (q ∷ [])) l
+one-written xs l list n q e c h = rw (e, c) (written-more xs l q (free-place xs l (rw (← e, ← c) h)))
+
+one-longer : (xs : List ℕ) (n q : ℕ) → n ≡ length xs → n + 1 ≡ length (xs ++ (q ∷ []))
+one-longer xs n q e = omega (arith, length-append xs (q ∷ []))
 
 -- the definition's lists, from what the code's step gives
 module _ (mc ac s : ℕ) (x : Lowering) where
@@ -98,40 +105,41 @@ module _ (T mc ac : ℕ) (words : Lowering) (p : Progress) (ready : Ready T mc a
       rep-of : (lent x : Lowering) → Holds lent x words (p .main) (p .aux) → Replaced (x .circuit) s (mc + length (x .main)) (ac + length (x .aux)) (x .roots) m′ roots′ k
       rep-of lent x h = rw (← h .circuit, ← h .roots, ← h .main-count, ← h .aux-count) rep
 
-      pub to-main : k .main ≡ true → Advanced T mc ac words (record { circuit = m′; roots = roots′; main = set (words .main) (p .main) (k .id); aux = words .aux }) p (record { main = p .main + 1; aux = p .aux; more = true })
-      to-main e =
-          record {
-            more = sym (told-both .0);
-            on = λ lent x h.
-                let r = rep-of lent x h in
-                let (a, b) = lists-of mc ac s x m′ roots′ k r true e in
-                let b′ : substituted mc ac x s .aux ≡ x .aux = b ∙ append-nil (x .aux) in
-                rw (advanced-is x (h .circuit) (h .roots))
-                (record {
-                  circuit = circuit-is mc ac s x m′ roots′ k r;
-                  roots = roots-are mc ac s x m′ roots′ k r;
-                  main = rw (a, h .main, h .main-count) (written-more (x .main) (lent .main) (k .id) (free-place (x .main) (lent .main) (rw (← h .main, ← h .main-count) (ready .main-place))));
-                  aux = rw b′ (h .aux);
-                  main-count = rw a (omega (arith, length-append (x .main) (k .id ∷ []), h .main-count));
-                  aux-count = rw b′ (h .aux-count);
-                });
-          }
+      module _ (main′ aux′ : List ℕ) (r : Progress) (added : Added k p (words .main) (words .aux) main′ aux′ r) where
+        abbrev after : Lowering
+        after = record { circuit = m′; roots = roots′; main = main′; aux = aux′ }
 
-      pub to-aux : k .main ≡ false → Advanced T mc ac words (record { circuit = m′; roots = roots′; main = words .main; aux = set (words .aux) (p .aux) (k .id) }) p (record { main = p .main; aux = p .aux + 1; more = true })
-      to-aux e =
-          record {
-            more = sym (told-both .0);
-            on = λ lent x h.
-                let r = rep-of lent x h in
-                let (a, b) = lists-of mc ac s x m′ roots′ k r false e in
-                let a′ : substituted mc ac x s .main ≡ x .main = a ∙ append-nil (x .main) in
-                rw (advanced-is x (h .circuit) (h .roots))
-                (record {
-                  circuit = circuit-is mc ac s x m′ roots′ k r;
-                  roots = roots-are mc ac s x m′ roots′ k r;
-                  main = rw a′ (h .main);
-                  aux = rw (b, h .aux, h .aux-count) (written-more (x .aux) (lent .aux) (k .id) (free-place (x .aux) (lent .aux) (rw (← h .aux, ← h .aux-count) (ready .aux-place))));
-                  main-count = rw a′ (h .main-count);
-                  aux-count = rw b (omega (arith, length-append (x .aux) (k .id ∷ []), h .aux-count));
-                });
-          }
+        on-main : k .main ≡ true → (lent x : Lowering) → Holds lent x words (p .main) (p .aux) → Holds lent (substituted mc ac x s) after (r .main) (r .aux)
+        on-main e lent x h =
+            let q = rep-of lent x h in
+            let (a, b) = lists-of mc ac s x m′ roots′ k q true e in
+            let b′ : substituted mc ac x s .aux ≡ x .aux = b ∙ append-nil (x .aux) in
+            record {
+              circuit = circuit-is mc ac s x m′ roots′ k q;
+              roots = roots-are mc ac s x m′ roots′ k q;
+              main = rw (added .main-list, e, a) (one-written (x .main) (lent .main) (words .main) (p .main) (k .id) (h .main) (h .main-count) (ready .main-place));
+              aux = rw (added .aux-list, e, b′) (h .aux);
+              main-count = rw (added .main-count, e, a) (one-longer (x .main) (p .main) (k .id) (h .main-count));
+              aux-count = rw (added .aux-count, e, b′) (h .aux-count);
+            }
+
+        on-aux : k .main ≡ false → (lent x : Lowering) → Holds lent x words (p .main) (p .aux) → Holds lent (substituted mc ac x s) after (r .main) (r .aux)
+        on-aux e lent x h =
+            let q = rep-of lent x h in
+            let (a, b) = lists-of mc ac s x m′ roots′ k q false e in
+            let a′ : substituted mc ac x s .main ≡ x .main = a ∙ append-nil (x .main) in
+            record {
+              circuit = circuit-is mc ac s x m′ roots′ k q;
+              roots = roots-are mc ac s x m′ roots′ k q;
+              main = rw (added .main-list, e, a′) (h .main);
+              aux = rw (added .aux-list, e, b) (one-written (x .aux) (lent .aux) (words .aux) (p .aux) (k .id) (h .aux) (h .aux-count) (ready .aux-place));
+              main-count = rw (added .main-count, e, a′) (h .main-count);
+              aux-count = rw (added .aux-count, e, b) (one-longer (x .aux) (p .aux) (k .id) (h .aux-count));
+            }
+
+        pub goes-on : Advanced T mc ac words after p r
+        goes-on = record { more = added .more ∙ sym (told-both .0); on = λ lent x h. rw (advanced-is x (h .circuit) (h .roots)) (go (k .main) refl lent x h) }
+          where
+            go : (b : Bool) → k .main ≡ b → (lent x : Lowering) → Holds lent x words (p .main) (p .aux) → Holds lent (substituted mc ac x s) after (r .main) (r .aux)
+            go true e = on-main e
+            go false e = on-aux e

@@ -13,7 +13,6 @@ use Rattle.circuit.specs.declared.node.Expression.the-variants.{Input}
 use Rattle.circuit.specs.Lists.{if_then_else_, written, bit}
 use Rattle.circuit.specs.Words.{used, limit, column, isMain, isNext}
 use Rattle.circuit.specs.Tree.{inputLeaf, tree}
-use Rattle.circuit.specs.NotCircuit.{notCircuit}
 use Rattle.circuit.specs.Answers.{accepted}
 use Rattle.circuit.proofs.Lists.{clash}
 use Rattle.paths.proofs.Written.{written-none}

@@ -1,15 +1,15 @@
 -- The loop of a lowering: what one substitution more asks of the lent words, and what they are after it. Assumes nothing.
 use Prim.Native.Nat.{ℕ, _+_, _<_, _≤_}
 use mathlib.Core.Path.{_≡_}
-use mathlib.Core.Bool.{true, false}
+use mathlib.Core.Bool.{true}
 use mathlib.Core.List.{List}
-use lib.ListN.{length}
+use lib.ListN.{length, set}
 use Rattle.circuit.specs.Lists.{if_then_else_, written}
-use Rattle.circuit.specs.NotCircuit.{notCircuit}
 use Rattle.circuit.specs.Outcomes.{Outcome}
 use Rattle.circuit.specs.Answers.{accepted}
 use Rattle.lowering.specs.Lowering.{Lowering, tooHigh, candidates, best, substituted, lowered}
 use Rattle.lower.specs.declared.calls.Progress.{Progress}
+use Rattle.lower.specs.declared.substitute.Constraint.{Constraint}
 use Rattle.lower.specs.Survey.{Choosable}
 use Rattle.lower.specs.Substituting.{Substitutable}
 use Rattle.lower.specs.Refusing.{firstRefusal, thenRefusal}
@@ -22,6 +22,14 @@ pub record Holds (lent x words : Lowering) (mains auxs : ℕ) : Type 0 where
   pub aux : words .aux ≡ written (x .aux) (lent .aux)
   pub main-count : mains ≡ length (x .main)
   pub aux-count : auxs ≡ length (x .aux)
+
+-- a constraint more, in one of the two lists
+pub record Added (c : Constraint) (p : Progress) (main aux main′ aux′ : List ℕ) (r : Progress) : Type 0 where
+  pub main-list : main′ ≡ (if c .main then set main (p .main) (c .id) else main)
+  pub aux-list : aux′ ≡ (if c .main then aux else set aux (p .aux) (c .id))
+  pub main-count : r .main ≡ (if c .main then p .main + 1 else p .main)
+  pub aux-count : r .aux ≡ (if c .main then p .aux else p .aux + 1)
+  pub more : r .more ≡ true
 
 module _ (target mainCount auxCount : ℕ) where
   -- the node chosen next

@@ -6,12 +6,12 @@ use Rattle.lower.proofs.calls.lower_all.Statement.{statement}
 use Rattle.lower.proofs.calls.lower_all.Tie as tie
 
 abbrev Inv-loop : tie.InvT-loop
-Inv-loop m₀ roots₀ target main-count aux-count main₀ aux₀ so₀ m roots main aux so =
-    Turning target main-count aux-count (record { circuit = m₀; roots = roots₀; main = main₀; aux = aux₀ }) (record { circuit = m; roots = roots; main = main; aux = aux }) so
+Inv-loop m₀ roots₀ target main-count aux-count main₀ aux₀ progress₀ m roots main aux progress =
+    Turning target main-count aux-count (record { circuit = m₀; roots = roots₀; main = main₀; aux = aux₀ }) (record { circuit = m; roots = roots; main = main; aux = aux }) progress
     × ((length m ≡ length m₀) × ((length roots ≡ length roots₀) × ((length main ≡ length main₀) × (length aux ≡ length aux₀))))
 
 abbrev μ-loop : tie.MeasureT-loop
-μ-loop m₀ roots₀ target main-count aux-count main₀ aux₀ so₀ m roots main aux so = left (record { circuit = m₀; roots = roots₀; main = main₀; aux = aux₀ }) so
+μ-loop m₀ roots₀ target main-count aux-count main₀ aux₀ progress₀ m roots main aux progress = left (record { circuit = m₀; roots = roots₀; main = main₀; aux = aux₀ }) progress
 
 loop-holds : tie.Need-loop-holds Inv-loop μ-loop
 loop-holds c = (turning-start _ _ _ _ (c .before .before .before .before .pre), (refl, (refl, (refl, refl))))

@@ -1,5 +1,5 @@
 use borrow.Author.Needs.{needs}
-use Rattle.lower.proofs.Advances.{stays, can-substitute, to-main, to-aux}
+use Rattle.lower.proofs.Advances.{stays, can-substitute, goes-on}
 use Rattle.lower.proofs.calls.one_more.Statement.{statement}
 use Rattle.lower.proofs.calls.one_more.Tie as tie
 
@@ -12,23 +12,17 @@ enum-told c = search needs
 enum-known-next : tie.Need-enum-known-next
 enum-known-next c = search needs
 
-add-substitute : tie.Need-add-substitute
-add-substitute c = search needs
+add-main-column : tie.Need-add-main-column
+add-main-column c = search needs
 
-add-substitute-2 : tie.Need-add-substitute-2
-add-substitute-2 c = search needs
+add-aux-column : tie.Need-add-aux-column
+add-aux-column c = search needs
 
 substitute-requires : tie.Need-substitute-requires
-substitute-requires c κs = can-substitute _ _ _ _ (c .before .before .before .before .before .before .before .before .before .before .before .before .before .before .args .so) (c .before .before .before .before .before .before .before .before .before .before .before .before .before .before .pre) _ (c .before .before .before .before .before .before .before .next-choice .ensures) _ (c .before .before .before .before .before .next .given .1)
+substitute-requires c κs = can-substitute _ _ _ _ (c .before .before .before .before .before .before .before .before .before .before .before .before .before .before .args .progress) (c .before .before .before .before .before .before .before .before .before .before .before .before .before .before .pre) _ (c .before .before .before .before .before .before .before .next-choice .ensures) _ (c .before .before .before .before .before .next .given .1)
 
-mul-main : tie.Need-mul-main
-mul-main c = search needs
-
-slice-write-main : tie.Need-slice-write-main
-slice-write-main c = search needs
-
-add-t28 : tie.Need-add-t28
-add-t28 c = search needs
+add-constraint-requires : tie.Need-add-constraint-requires
+add-constraint-requires c κs = search needs
 
 same-length : tie.Need-same-length
 same-length c = search needs
@@ -36,20 +30,11 @@ same-length c = search needs
 same-length-2 : tie.Need-same-length-2
 same-length-2 c = search needs
 
+returns : tie.Need-returns
+returns c = stays _ _ _ _ _ (c .before .before .before .before .before .before .before .before .before .pre) _ (c .before .before .next-choice .ensures) (c .enum-told .given .1)
+
 same-length-3 : tie.Need-same-length-3
 same-length-3 c = search needs
-
-returns : tie.Need-returns
-returns c = to-main _ _ _ _ _ (c .before .before .before .before .before .before .before .before .before .before .before .before .before .before .before .before .before .before .before .before .before .pre) _ (c .before .before .before .before .before .before .before .before .before .before .before .before .before .before .next-choice .ensures) _ (c .before .before .before .before .before .before .before .before .before .before .before .before .next .given .1) _ _ _ (c .before .before .before .before .before .before .substitute .ensures) (c .before .if1 .taken)
-
-mul-aux : tie.Need-mul-aux
-mul-aux c = search needs
-
-slice-write-aux : tie.Need-slice-write-aux
-slice-write-aux c = search needs
-
-add-t23 : tie.Need-add-t23
-add-t23 c = search needs
 
 same-length-4 : tie.Need-same-length-4
 same-length-4 c = search needs
@@ -57,20 +42,11 @@ same-length-4 c = search needs
 same-length-5 : tie.Need-same-length-5
 same-length-5 c = search needs
 
-returns-2 : tie.Need-returns-2
-returns-2 c = stays _ _ _ _ _ (c .before .before .before .before .before .before .before .before .before .pre) _ (c .before .before .next-choice .ensures) (c .enum-told .given .1)
-
 same-length-6 : tie.Need-same-length-6
 same-length-6 c = search needs
 
-same-length-7 : tie.Need-same-length-7
-same-length-7 c = search needs
-
-same-length-8 : tie.Need-same-length-8
-same-length-8 c = search needs
-
-returns-3 : tie.Need-returns-3
-returns-3 c = to-aux _ _ _ _ _ (c .before .before .before .before .before .before .before .before .before .before .before .before .before .before .before .before .before .before .before .before .before .pre) _ (c .before .before .before .before .before .before .before .before .before .before .before .before .before .before .next-choice .ensures) _ (c .before .before .before .before .before .before .before .before .before .before .before .before .next .given .1) _ _ _ (c .before .before .before .before .before .before .substitute .ensures) (c .before .if1 .left)
+returns-2 : tie.Need-returns-2
+returns-2 c = goes-on _ _ _ _ _ (c .before .before .before .before .before .before .before .before .before .before .before .before .before .before .before .before .before .before .before .before .before .before .before .before .before .before .pre) _ (c .before .before .before .before .before .before .before .before .before .before .before .before .before .before .before .before .before .before .before .next-choice .ensures) _ (c .before .before .before .before .before .before .before .before .before .before .before .before .before .before .before .before .before .next .given .1) _ _ _ (c .before .before .before .before .before .before .before .before .before .before .before .substitute .ensures) _ _ _ (c .before .before .before .before .add-constraint .ensures)
 
 pub one-more-spec : {M : Type 1} → statement M
 one-more-spec =
@@ -79,23 +55,15 @@ one-more-spec =
     next-choice-requires
     enum-told
     enum-known-next
-    add-substitute
-    add-substitute-2
+    add-main-column
+    add-aux-column
     substitute-requires
-    mul-main
-    slice-write-main
-    add-t28
+    add-constraint-requires
     same-length
     same-length-2
-    same-length-3
     returns
-    mul-aux
-    slice-write-aux
-    add-t23
+    same-length-3
     same-length-4
     same-length-5
-    returns-2
     same-length-6
-    same-length-7
-    same-length-8
-    returns-3)
+    returns-2)
