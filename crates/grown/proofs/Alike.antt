@@ -1,19 +1,23 @@
 -- Nodes that are alike, by their shapes; and one substitution makes no two old nodes alike that were not. Assumes nothing.
-use Prim.Native.Nat.{ℕ}
+use Prim.Native.Nat.{ℕ, _<_}
 use mathlib.Core.Path.{_≡_, refl, sym, ap, _∙_}
 use mathlib.Core.Logic.{_⊎_, inl, inr, ⊎-elim}
 use mathlib.Core.Bool.{Bool, true, false, _||_}
 use mathlib.Core.Option.{some}
+use mathlib.Core.List.{List}
+use native.Mathlib.Decide.{ℕ-discrete, decLt}
 use native.Mathlib.Omega.{arith}
 use Rattle.circuit.specs.declared.node.Position.{Position}
-use Rattle.circuit.specs.Tree.{Leaf, inputLeaf, Tree, leaf, branch, same}
+use Rattle.circuit.specs.Words.{used, registered}
+use Rattle.circuit.specs.Tree.{Leaf, inputLeaf, Tree, leaf, branch, tree, same}
+use Rattle.circuit.proofs.Lists.{clash}
 use Rattle.lowering.proofs.Shape.{Expr, leafE, opE, Shape, lf, op, shape, Look, Unf, sub}
 use Rattle.lowering.proofs.Steps.{Move, Kept}
 use Rattle.lowering.proofs.Unfold.{one-tree}
 use Rattle.lowering.proofs.OneStep.{tree-after}
 use Rattle.lowering.proofs.Count.{unf-some}
 use Rattle.lowering.proofs.Finds.{same-shape, shape-same}
-use Rattle.grown.specs.Results.{turned, alike}
+use Rattle.grown.specs.Results.{turned, alike, Unique}
 
 -- a shape with its operands exchanged
 abbrev turn : Shape → Shape
@@ -52,6 +56,18 @@ unlike s t h = go (alike s t) refl
     go : (b : Bool) → alike s t ≡ b → b ≡ false
     go true e = absurd (h (alike-like s t e))
     go false e = refl
+
+-- two registered nodes of one shape are one node
+pub unique-one : (m : List ℕ) → Unique m → (i j : ℕ) → i < used m → j < used m → registered m i ≡ true → registered m j ≡ true → shape (tree m i) ≡ shape (tree m j) → i ≡ j
+unique-one m v i j a b p q e = go (ℕ-discrete i j) (decLt i j)
+  where
+    apart : (i j : ℕ) → i < j → j < used m → registered m i ≡ true → registered m j ≡ true → shape (tree m i) ≡ shape (tree m j) → ⊥
+    apart i j l b p q e = clash (alike (tree m i) (tree m j)) (like-alike (tree m i) (tree m j) (inl e)) (v .apart i j l b p q)
+
+    go : Dec (i ≡ j) → Dec (i < j) → i ≡ j
+    go (yes k) d = k
+    go (no k) (yes l) = absurd (apart i j l b p q e)
+    go (no k) (no l) = absurd (apart j i (omega arith) a q p (sym e))
 
 module _ {s n : ℕ} {y : Position} {c c′ : Look} {u : Shape} (st : Move c c′ s n y u) where
   -- put what the input at y stands for in its place: what is alike then was alike before

@@ -4,7 +4,6 @@ use mathlib.Core.Path.{_≡_, refl, sym, _∙_}
 use mathlib.Core.Bool.{Bool, true, false, _||_}
 use mathlib.Core.List.{List, [], _∷_, _++_}
 use native.Mathlib.Omega.{arith}
-use native.Mathlib.Decide.{ℕ-discrete, decLt}
 use lib.ListN.{length, set, length-set}
 use lib.Seq.{getD-set-same, getD-set-other}
 use lib.Dec.{ltb, leb, eqb}
@@ -25,19 +24,20 @@ use Rattle.circuit.specs.Calls.{startCall}
 use Rattle.circuit.specs.Tree.{Tree, tree, same}
 use Rattle.circuit.proofs.Lists.{clash}
 use Rattle.circuit.proofs.Tests.{neither, or-false}
-use Rattle.classes.proofs.Shapes.{same-sym, same-trans}
 use Rattle.building.specs.Building.{Built, findOrMake, operate, negated, subtracted, summed, summedFrom, full}
 use Rattle.building.specs.Calls.{building, inputCall, challengeCall, baseCall, extensionCall, operationCall, subtractCall, negateCall, sumCall}
 use Rattle.build.proofs.Stepping.{constant-good}
 use Rattle.paths.specs.Refusals.{overPaths, repeated}
 use Rattle.paths.specs.Calls.{counted, countCall}
+use Rattle.lowering.proofs.Finds.{same-shape}
 use Rattle.lowering.proofs.Accepts.{peel, number-is}
 use Rattle.lowering.proofs.Fits.{in-place}
-use Rattle.grown.specs.Results.{alike, Unique}
+use Rattle.grown.specs.Results.{Unique}
 use Rattle.grown.specs.Grown as grown
 use Rattle.grown.specs.Grown.{Grown}
 use Rattle.grown.specs.Invariants.{Invariants}
 use Rattle.grown.proofs.Built.{Builds, leaf-builds, constant-leaf, operate-operates, negate-negates, subtract-subtracts, sum-sums}
+use Rattle.grown.proofs.Alike.{unique-one}
 use Rattle.grown.proofs.Lowers.{lower-unique}
 use Rattle.grown.proofs.Counted.{all-counted, same-circuit, same-unique}
 
@@ -203,21 +203,9 @@ grown-good m (grown.count x g roots h) = count-good x roots (grown-good x g) h
 grown-good m (grown.lower lent g target mainCount auxCount h) =
     record { circuit = in-place target mainCount auxCount lent h .valid; unique = lower-unique target mainCount auxCount lent h (grown-good (lent .circuit) g .unique) }
 
-same-alike : (s t : Tree) → same s t ≡ true → alike s t ≡ true
-unfolding alike
-same-alike s t h = rw h
-
 -- two registered nodes that are equal to one tree are one node
 one-match : (m : List ℕ) → Unique m → (t : Tree) (i j : ℕ) → i < used m → j < used m → registered m i ≡ true → registered m j ≡ true → same (tree m i) t ≡ true → same (tree m j) t ≡ true → i ≡ j
-one-match m v t i j a b p q h k = go (ℕ-discrete i j) (decLt i j)
-  where
-    apart : (i j : ℕ) → i < j → j < used m → registered m i ≡ true → registered m j ≡ true → same (tree m i) t ≡ true → same (tree m j) t ≡ true → ⊥
-    apart i j l b p q h k = clash (alike (tree m i) (tree m j)) (same-alike (tree m i) (tree m j) (same-trans (tree m i) t (tree m j) h (same-sym (tree m j) t k))) (v .apart i j l b p q)
-
-    go : Dec (i ≡ j) → Dec (i < j) → i ≡ j
-    go (yes e) d = e
-    go (no e) (yes l) = absurd (apart i j l b p q h k)
-    go (no e) (no l) = absurd (apart j i (omega arith) a q p k h)
+one-match m v t i j a b p q h k = unique-one m v i j a b p q (same-shape (tree m i) t h ∙ sym (same-shape (tree m j) t k))
 
 -- EVERY GROWN CIRCUIT
 pub grown-invariants : (m : List ℕ) → Grown m → Invariants m

@@ -1,6 +1,15 @@
 pub mod Built
 pub mod Alike
 pub mod Substituted
+pub mod Differences
+pub mod Advances
 pub mod Lowers
 pub mod Counted
 pub mod Grows
+pub mod Choices
+pub mod Promised
+pub mod Stores
+pub mod Agrees
+pub mod Evaluates
+pub mod Remains
+pub mod Filled

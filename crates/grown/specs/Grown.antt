@@ -6,7 +6,6 @@ use Rattle.field.specs.declared.extension.Triple.{Triple}
 use Rattle.circuit.specs.declared.node.RowKind.{RowKind}
 use Rattle.circuit.specs.declared.node.Position.{Position}
 use Rattle.circuit.specs.declared.node.Op.{Op}
-use Rattle.circuit.specs.Outcomes.{Outcome}
 use Rattle.circuit.specs.Calls.{startCall}
 use Rattle.building.specs.Calls.{inputCall, challengeCall, baseCall, extensionCall, operationCall, subtractCall, negateCall, sumCall}
 use Rattle.paths.specs.Calls.{countCall}

@@ -2,3 +2,5 @@
 pub mod Results
 pub mod Grown
 pub mod Invariants
+pub mod Promise
+pub mod Evaluated

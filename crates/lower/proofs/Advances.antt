@@ -42,12 +42,16 @@ free-place : (xs l : List ℕ) → length xs < length (written xs l) → length 
 unfolding written
 free-place xs l h = omega (arith, length-append xs (drop (length xs) l), length-drop (length xs) l)
 
--- one constraint more in its list
-one-written : (xs l list : List ℕ) (n q : ℕ) → list ≡ written xs l → n ≡ length xs → n < length list → set list n q ≡ written (xs ++ (q ∷ [])) l
-one-written xs l list n q e c h = rw (e, c) (written-more xs l q (free-place xs l (rw (← e, ← c) h)))
+-- one constraint more in its list, or none
+if-more : (b : Bool) (xs l list : List ℕ) (n q : ℕ) → list ≡ written xs l → n ≡ length xs → n < length list
+    → ((if b then set list n q else list) ≡ written (xs ++ (if b then q ∷ [] else [])) l) × ((if b then n + 1 else n) ≡ length (xs ++ (if b then q ∷ [] else [])))
+if-more true xs l list n q e c h = (rw (e, c) (written-more xs l q (free-place xs l (rw (← e, ← c) h))), omega (arith, length-append xs (q ∷ [])))
+if-more false xs l list n q e c h = rw (append-nil xs) (e, c)
 
-one-longer : (xs : List ℕ) (n q : ℕ) → n ≡ length xs → n + 1 ≡ length (xs ++ (q ∷ []))
-one-longer xs n q e = omega (arith, length-append xs (q ∷ []))
+if-not-more : (b : Bool) (xs l list : List ℕ) (n q : ℕ) → list ≡ written xs l → n ≡ length xs → n < length list
+    → ((if b then list else set list n q) ≡ written (xs ++ (if b then [] else q ∷ [])) l) × ((if b then n else n + 1) ≡ length (xs ++ (if b then [] else q ∷ [])))
+if-not-more true = if-more false
+if-not-more false = if-more true
 
 -- the definition's lists, from what the code's step gives
 module _ (mc ac s : ℕ) (x : Lowering) where
@@ -109,37 +113,20 @@ module _ (T mc ac : ℕ) (words : Lowering) (p : Progress) (ready : Ready T mc a
         abbrev after : Lowering
         after = record { circuit = m′; roots = roots′; main = main′; aux = aux′ }
 
-        on-main : k .main ≡ true → (lent x : Lowering) → Holds lent x words (p .main) (p .aux) → Holds lent (substituted mc ac x s) after (r .main) (r .aux)
-        on-main e lent x h =
+        on-either : (b : Bool) → k .main ≡ b → (lent x : Lowering) → Holds lent x words (p .main) (p .aux) → Holds lent (substituted mc ac x s) after (r .main) (r .aux)
+        on-either b e lent x h =
             let q = rep-of lent x h in
-            let (a, b) = lists-of mc ac s x m′ roots′ k q true e in
-            let b′ : substituted mc ac x s .aux ≡ x .aux = b ∙ append-nil (x .aux) in
+            let (mains, auxs) = lists-of mc ac s x m′ roots′ k q b e in
+            let (ml, mn) = if-more b (x .main) (lent .main) (words .main) (p .main) (k .id) (h .main) (h .main-count) (ready .main-place) in
+            let (al, an) = if-not-more b (x .aux) (lent .aux) (words .aux) (p .aux) (k .id) (h .aux) (h .aux-count) (ready .aux-place) in
             record {
               circuit = circuit-is mc ac s x m′ roots′ k q;
               roots = roots-are mc ac s x m′ roots′ k q;
-              main = rw (added .main-list, e, a) (one-written (x .main) (lent .main) (words .main) (p .main) (k .id) (h .main) (h .main-count) (ready .main-place));
-              aux = rw (added .aux-list, e, b′) (h .aux);
-              main-count = rw (added .main-count, e, a) (one-longer (x .main) (p .main) (k .id) (h .main-count));
-              aux-count = rw (added .aux-count, e, b′) (h .aux-count);
-            }
-
-        on-aux : k .main ≡ false → (lent x : Lowering) → Holds lent x words (p .main) (p .aux) → Holds lent (substituted mc ac x s) after (r .main) (r .aux)
-        on-aux e lent x h =
-            let q = rep-of lent x h in
-            let (a, b) = lists-of mc ac s x m′ roots′ k q false e in
-            let a′ : substituted mc ac x s .main ≡ x .main = a ∙ append-nil (x .main) in
-            record {
-              circuit = circuit-is mc ac s x m′ roots′ k q;
-              roots = roots-are mc ac s x m′ roots′ k q;
-              main = rw (added .main-list, e, a′) (h .main);
-              aux = rw (added .aux-list, e, b) (one-written (x .aux) (lent .aux) (words .aux) (p .aux) (k .id) (h .aux) (h .aux-count) (ready .aux-place));
-              main-count = rw (added .main-count, e, a′) (h .main-count);
-              aux-count = rw (added .aux-count, e, b) (one-longer (x .aux) (p .aux) (k .id) (h .aux-count));
+              main = rw (added .main-list, e, mains) ml;
+              aux = rw (added .aux-list, e, auxs) al;
+              main-count = rw (added .main-count, e, mains) mn;
+              aux-count = rw (added .aux-count, e, auxs) an;
             }
 
         pub goes-on : Advanced T mc ac words after p r
-        goes-on = record { more = added .more ∙ sym (told-both .0); on = λ lent x h. rw (advanced-is x (h .circuit) (h .roots)) (go (k .main) refl lent x h) }
-          where
-            go : (b : Bool) → k .main ≡ b → (lent x : Lowering) → Holds lent x words (p .main) (p .aux) → Holds lent (substituted mc ac x s) after (r .main) (r .aux)
-            go true e = on-main e
-            go false e = on-aux e
+        goes-on = record { more = added .more ∙ sym (told-both .0); on = λ lent x h. rw (advanced-is x (h .circuit) (h .roots)) (on-either (k .main) refl lent x h) }

@@ -23,9 +23,10 @@ use Rattle.building.specs.Building.{Built, built, find, orElse, findOrMake, eit
 use Rattle.lowering.proofs.Shape.{Expr, leafE, opE, exprOf, Shape, lf, op, shape, Look, Unf}
 use Rattle.lowering.proofs.Steps.{more}
 use Rattle.lowering.proofs.ListLaws.{and-true, and-both, upTo-in, in-upTo, first-some, first-none}
+use Rattle.lowering.proofs.Unfold.{one-tree}
 use Rattle.lowering.proofs.Words.{look, look-lt, Sound, tree-shape, shape-is}
 use Rattle.lowering.proofs.Proper.{goodLeaf, Proper, made-proper}
-use Rattle.lowering.proofs.Made.{decode-encode, made-used, made-room, made-length, made-old, made-mark, look-made-old, look-made-new, look-made-back}
+use Rattle.lowering.proofs.Made.{decode-encode, made-row, made-used, made-room, made-length, made-old, made-mark, look-made-old, look-made-new, look-made-back}
 
 words-same : (a b : List ℕ) → sameWords a b ≡ true → a ≡ b
 unfolding sameWords
@@ -126,9 +127,10 @@ pub record Grew (m m′ : List ℕ) : Type 0 where
   -- what fits into the lent words takes no more
   pub in-place : 2 + 6 * used m′ ≤ length m → length m′ ≡ length m
   pub proper : Proper m → Proper m′
+  pub row : getD m′ 0 0 ≡ getD m 0 0
 
 pub grew-self : (m : List ℕ) → Sound m → Grew m m
-grew-self m s = record { sound = s; ext = λ i e h. h; marks = λ i h. refl; more = omega arith; inputs = λ i q h. h; in-place = λ h. refl; proper = λ h. h }
+grew-self m s = record { sound = s; ext = λ i e h. h; marks = λ i h. refl; more = omega arith; inputs = λ i q h. h; in-place = λ h. refl; proper = λ h. h; row = refl }
 
 pub grew-more : (a b c : List ℕ) → Grew a b → Grew b c → Grew a c
 grew-more a b c g h =
@@ -142,11 +144,19 @@ grew-more a b c g h =
           let e : length b ≡ length a = g .in-place (omega (arith, h .more)) in
           h .in-place (omega arith) ∙ e;
       proper = λ p. h .proper (g .proper p);
+      row = h .row ∙ g .row;
     }
 
 pub unf-ext : (c c′ : Look) → ((i : ℕ) (e : Expr) → c i ≡ some e → c′ i ≡ some e) → (t : Shape) (i : ℕ) → Unf c t i → Unf c′ t i
 unf-ext c c′ h (lf x) i p = h i (leafE x) p
 unf-ext c c′ h (op o a b) i (l, r, p, v, w) = (l, r, h i (opE o l r) p, unf-ext c c′ h a l v, unf-ext c c′ h b r w)
+
+-- an old node has the tree that it had
+pub unf-back : (m m′ : List ℕ) → Sound m → Grew m m′ → (t : Shape) (i : ℕ) → i < used m → Unf (look m′) t i → Unf (look m) t i
+unf-back m m′ s g t i h w =
+    let (a, v) = s .whole i h in
+    let e : a ≡ t = one-tree (look m′) a t i (unf-ext (look m) (look m′) (g .ext) a i v) w in
+    rw e at v
 
 -- what a new node may say: an operation's operands have trees
 abbrev pub Ready : List ℕ → Expression → Type 0
@@ -185,6 +195,7 @@ made-grew m s e r n good =
       inputs = λ i q h. ⊎-elim (λ k. k) (λ k. absurd (n q (sym (k .1)))) (look-made-back m e (s .room) i (leafE (inputLeaf q)) h);
       in-place = λ h. made-length m e (s .room) (omega (arith, made-used m e (s .room)));
       proper = made-proper m (s .room) e good;
+      row = made-row m e (s .room);
     }
 
 -- found or made: a circuit grown to have a node with the tree of e
@@ -193,6 +204,8 @@ pub record Got (m : List ℕ) (t : Shape) (b : Built) : Type 0 where
   pub tree : Unf (look (b .circuit)) t (b .id)
   pub mark : registered (b .circuit) (b .id) ≡ true
   pub few : used (b .circuit) ≤ suc (used m)
+  -- nothing else is made
+  pub new : (i : ℕ) → used m ≤ i → i < used (b .circuit) → i ≡ b .id
 
 pub found-or-made : (m : List ℕ) → Sound m → (e : Expression) → Ready m e → ((q : Position) → exprOf e ≢ leafE (inputLeaf q)) → ((x : Leaf) → exprOf e ≡ leafE x → goodLeaf (getD m 0 0) x) → Got m (shape (treeOf m e)) (findOrMake m e)
 unfolding findOrMake
@@ -213,8 +226,8 @@ found-or-made m s e r n good = go (find m e) refl
     at-new (Input q) r = look-made-new m (Input q) (s .room)
 
     go : (x : Option ℕ) → find m e ≡ x → Got m (shape (treeOf m e)) (orElse x m (built (made m e) (used m)))
-    go (some i) h = record { grew = grew-self m s; tree = found m s e i h; mark = found-mark m e i h; few = omega arith }
-    go none h = record { grew = made-grew m s e r n good; tree = at-new e r; mark = made-mark m e (s .room); few = omega (arith, made-used m e (s .room)) }
+    go (some i) h = record { grew = grew-self m s; tree = found m s e i h; mark = found-mark m e i h; few = omega arith; new = λ j a b. absurd (omega arith) }
+    go none h = record { grew = made-grew m s e r n good; tree = at-new e r; mark = made-mark m e (s .room); few = omega (arith, made-used m e (s .room)); new = λ j a b. omega (arith, made-used m e (s .room)) }
 
 -- either order
 pub either-order : (m : List ℕ) → Sound m → (o : Op) (l r : ℕ) (a b : Shape) → Unf (look m) a l → Unf (look m) b r → Got m (op o a b) (eitherOrder m o l r) ⊎ Got m (op o b a) (eitherOrder m o l r)
@@ -222,7 +235,7 @@ unfolding eitherOrder
 either-order m s o l r a b v w = go (find m (Operation o r l)) refl
   where
     go : (x : Option ℕ) → find m (Operation o r l) ≡ x → Got m (op o a b) (orElse x m (findOrMake m (Operation o l r))) ⊎ Got m (op o b a) (orElse x m (findOrMake m (Operation o l r)))
-    go (some i) h = inr (rw (shape-is m a l v, shape-is m b r w) at (let g : Got m (op o (shape (tree m r)) (shape (tree m l))) (built m i) = record { grew = grew-self m s; tree = found m s (Operation o r l) i h; mark = found-mark m (Operation o r l) i h; few = omega arith } in g))
+    go (some i) h = inr (rw (shape-is m a l v, shape-is m b r w) at (let g : Got m (op o (shape (tree m r)) (shape (tree m l))) (built m i) = record { grew = grew-self m s; tree = found m s (Operation o r l) i h; mark = found-mark m (Operation o r l) i h; few = omega arith; new = λ j a b. absurd (omega arith) } in g))
     go none h =
         let g : Got m (op o (shape (tree m l)) (shape (tree m r))) (findOrMake m (Operation o l r)) = found-or-made m s (Operation o l r) ((a, v), (b, w)) (λ q e. absurd (let z : _≡_ {A = ℕ} 0 1 = cc in omega arith)) (λ x e. absurd (let z : _≡_ {A = ℕ} 0 1 = cc in omega arith)) in
         inl (rw (shape-is m a l v, shape-is m b r w) at g)

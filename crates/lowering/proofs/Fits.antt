@@ -16,16 +16,15 @@ use Rattle.lowering.specs.Lowering.{Lowering, M, tooHigh, loop, lowered}
 use Rattle.lowering.specs.Refusals.{inputAtOrAbove, badColumns, fullLowering}
 use Rattle.lowering.specs.Calls.{testsThen, lowerCall}
 use Rattle.lowering.specs.Demand.{InPlace}
-use Rattle.lowering.proofs.Steps.{Led, Rooted}
+use Rattle.lowering.proofs.Steps.{Led}
 use Rattle.lowering.proofs.ListLaws.{or-false}
 use Rattle.lowering.proofs.Bound.{Pairs, as-run}
-use Rattle.lowering.proofs.Words.{look, Sound, parts, valid-sound}
+use Rattle.lowering.proofs.Words.{parts}
 use Rattle.lowering.proofs.Proper.{Proper, proper-of, circuit-of}
-use Rattle.lowering.proofs.Chooses.{all-registered}
 use Rattle.lowering.proofs.OneMore.{State}
 use Rattle.lowering.proofs.Loops.{Ran, loop-ran}
 use Rattle.lowering.proofs.Fills.{start}
-use Rattle.lowering.proofs.Accepts.{First, Then, accepted, columns-start, first-tests, lent-is, list-tests, rooted-start, tests, then-tests}
+use Rattle.lowering.proofs.Accepts.{First, Then, accepted, first-tests, lent-is, list-tests, tests, then-tests}
 use Rattle.lowering.proofs.Theorem.{demand-some, lowered-none, state-start}
 
 -- the places lie in the lent words

@@ -56,6 +56,7 @@ pub record Ran (T mc ac : ℕ) (x x′ : Lowering) : Type 0 where
   pub grows : used (x .circuit) ≤ used (x′ .circuit)
   pub lies-in : 2 + 6 * used (x′ .circuit) ≤ length (x .circuit) → length (x′ .circuit) ≡ length (x .circuit)
   pub proper : mc + length (x′ .main) ≤ 65536 → ac + length (x′ .aux) ≤ 65536 → Proper (x .circuit) → Proper (x′ .circuit)
+  pub row : getD (x′ .circuit) 0 0 ≡ getD (x .circuit) 0 0
 
 ran-none : (T mc ac : ℕ) (x : Lowering) → State mc ac x → Ran T mc ac x x
 ran-none T mc ac x state =
@@ -84,6 +85,7 @@ ran-none T mc ac x state =
       grows = omega arith;
       lies-in = λ h. refl;
       proper = λ a b h. h;
+      row = refl;
     }
   where
     nothing : (p : Position) → New mc ac x x p → ⊥
@@ -172,6 +174,7 @@ ran-more T mc ac x x₁ x′ state high one r = go (one .added)
           grows = omega (arith, one .grows, r .grows);
           lies-in = lie;
           proper = λ h k z. r .proper h k (one .proper (in-bounds h k (one .added)) z);
+          row = r .row ∙ one .row;
         }
       where
         every : (p : Position) → New mc ac x x′ p → In p (one .y ∷ r .ys)
@@ -211,6 +214,7 @@ ran-more T mc ac x x₁ x′ state high one r = go (one .added)
           grows = omega (arith, one .grows, r .grows);
           lies-in = lie;
           proper = λ h k z. r .proper h k (one .proper (in-bounds h k (one .added)) z);
+          row = r .row ∙ one .row;
         }
       where
         every : (p : Position) → New mc ac x x′ p → In p (one .y ∷ r .ys)

@@ -6,20 +6,20 @@ use mathlib.Core.Bool.{Bool, true, false}
 use mathlib.Core.Option.{some}
 use mathlib.Core.List.{List, [], _∷_, _++_, map}
 use native.Mathlib.Omega.{arith}
-use lib.ListN.{length, length-append}
+use lib.ListN.{length, getD, length-append}
 use Rattle.circuit.specs.declared.node.Position.{Position}
 use Rattle.circuit.specs.declared.node.Position.the-variants.{Main, Aux, NextMain, NextAux}
 use Rattle.circuit.specs.Words.{used, registered, column, isMain}
 use Rattle.circuit.specs.Tree.{inputLeaf, tree}
 use Rattle.read.specs.Readings.{isBase}
 use Rattle.lowering.specs.Lowering.{renamed, Lowering, tooHigh, candidates, best, substituted}
-use Rattle.lowering.proofs.Shape.{leafE, Shape, baseS}
+use Rattle.lowering.proofs.Shape.{leafE, Shape, Unf, baseS}
 use Rattle.lowering.proofs.Steps.{Regs, Rooted, Choice, redirId, Stepped}
 use Rattle.lowering.proofs.Count.{rooted-after, regs-after}
 use Rattle.lowering.proofs.Words.{look, Sound, shape-is}
 use Rattle.lowering.proofs.Redirects.{renamed-is}
 use Rattle.lowering.proofs.Constraints.{HasMinus}
-use Rattle.lowering.proofs.Substitutes.{base-shape, three, three-sound, stepped, inputs-after, substituted-is, nodes-grow, three-proper, four-more, three-more, has-minus, lies-in}
+use Rattle.lowering.proofs.Substitutes.{base-shape, three, three-sound, stepped, inputs-after, substituted-is, nodes-grow, three-proper, four-more, three-more, has-minus, lies-in, loose-after, twin, row-after}
 use Rattle.lowering.proofs.Proper.{Proper}
 use Rattle.lowering.proofs.Chooses.{best-choice}
 
@@ -66,6 +66,9 @@ pub record OneMore (T mc ac : ℕ) (x x₁ : Lowering) : Type 0 where
   pub grows : used (x .circuit) ≤ used (x₁ .circuit)
   pub lies-in : 2 + 6 * used (x₁ .circuit) ≤ length (x .circuit) → length (x₁ .circuit) ≡ length (x .circuit)
   pub proper : column y ≤ 65535 → Proper (x .circuit) → Proper (x₁ .circuit)
+  pub loose : (i : ℕ) → i < used (x .circuit) → registered (x .circuit) i ≡ false → registered (x₁ .circuit) i ≡ false
+  pub twin : (i : ℕ) → registered (x₁ .circuit) i ≡ true → Unf (look (x₁ .circuit)) u i → (i ≢ s) × (registered (x .circuit) i ≡ true) × Unf (look (x .circuit)) u i
+  pub row : getD (x₁ .circuit) 0 0 ≡ getD (x .circuit) 0 0
 
 renamed-all : (s n : ℕ) (rs : List ℕ) → map (renamed s n) rs ≡ map (redirId s n) rs
 renamed-all s n [] = refl
@@ -106,6 +109,9 @@ module _ (T mc ac : ℕ) (two : 2 ≤ T) where
             grows = nodes-grow m (state .sound) s u (ch .low) (ch .tree) y fresh kind;
             lies-in = lies-in m (state .sound) s u (ch .low) (ch .tree) y fresh kind;
             proper = λ z. three-proper m (state .sound) s u (ch .low) (ch .tree) y fresh kind z refl;
+            loose = loose-after m (state .sound) s u (ch .low) (ch .tree) y fresh kind;
+            twin = twin m (state .sound) s u (ch .low) (ch .tree) y fresh kind;
+            row = row-after m (state .sound) s u (ch .low) (ch .tree) y fresh kind;
           })
       go s u ch false e =
           let m : List ℕ = x .circuit in
@@ -131,6 +137,9 @@ module _ (T mc ac : ℕ) (two : 2 ≤ T) where
             grows = nodes-grow m (state .sound) s u (ch .low) (ch .tree) y fresh kind;
             lies-in = lies-in m (state .sound) s u (ch .low) (ch .tree) y fresh kind;
             proper = λ z. three-proper m (state .sound) s u (ch .low) (ch .tree) y fresh kind z refl;
+            loose = loose-after m (state .sound) s u (ch .low) (ch .tree) y fresh kind;
+            twin = twin m (state .sound) s u (ch .low) (ch .tree) y fresh kind;
+            row = row-after m (state .sound) s u (ch .low) (ch .tree) y fresh kind;
           })
 
 pub length-more : (xs ys : List ℕ) (q : ℕ) → ys ≡ xs ++ (q ∷ []) → length ys ≡ suc (length xs)

@@ -20,7 +20,7 @@ use Rattle.circuit.specs.Tree.{Leaf, baseLeaf, extensionLeaf, challengeLeaf, in
 use Rattle.circuit.specs.NotCircuit.{badRow, badIndex, badWord, badWords, badExpression, badNode, eitherOperand, goesOn, cyclic, badHeader, notCircuit}
 use Rattle.lowering.specs.Lowering.{redirected}
 use Rattle.lowering.proofs.Shape.{leafE, opE, exprOf, Shape, lf, op, Unf, depth}
-use Rattle.lowering.proofs.ListLaws.{or-false, any-false, upTo-in, in-upTo}
+use Rattle.lowering.proofs.ListLaws.{or-false, in-upTo}
 use Rattle.lowering.proofs.Count.{unf-some}
 use Rattle.lowering.proofs.Words.{look, look-in, look-lt, look-is, Sound, parts, depth-bound}
 use Rattle.lowering.proofs.Made.{made-used, made-row, made-kind, made-mark-word, made-old-word, look-made-back}
@@ -90,7 +90,7 @@ proper-of m h =
     leaf-of (Operation o l r) x p q = absurd (let z : _≡_ {A = ℕ} 0 1 = cc in omega arith)
     leaf-of (Input w) x p q = let z : inputLeaf w ≡ x = cc in rw (← z) q
 
-none-false : {A : Type 0} (p : A → Bool) (xs : List A) → ((x : A) → In x xs → p x ≡ false) → any p xs ≡ false
+pub none-false : {A : Type 0} (p : A → Bool) (xs : List A) → ((x : A) → In x xs → p x ≡ false) → any p xs ≡ false
 unfolding any
 none-false p [] f = refl
 none-false p (x ∷ xs) f = rw (f x (inl refl)) (none-false p xs (λ y h. f y (inr h)))

@@ -1,13 +1,13 @@
 -- One substitution of the definitions is one step of the theory. Assumes nothing.
 use Prim.Native.Nat.{ℕ, suc, _+_, _*_, _≤_, _<_}
-use mathlib.Core.Path.{_≡_, refl, _∙_, ap, ap₂}
+use mathlib.Core.Path.{_≡_, refl, sym, _∙_, ap, ap₂}
 use mathlib.Core.Logic.{_≢_, _⊎_, inl, inr, ⊎-elim}
 use mathlib.Core.Bool.{Bool, true, false, _&&_}
 use mathlib.Core.Option.{Option, none, some}
 use mathlib.Core.List.{List, [], _∷_, _++_, map}
-use native.Mathlib.Decide.{ℕ-discrete}
+use native.Mathlib.Decide.{ℕ-discrete, decLt}
 use native.Mathlib.Omega.{arith}
-use lib.ListN.{length}
+use lib.ListN.{length, getD}
 use borrow.Author.Tests.{le-ltb}
 use Rattle.field.specs.Base.{minusOne}
 use Rattle.circuit.specs.Lists.{if_then_else_}
@@ -20,15 +20,16 @@ use Rattle.circuit.specs.Tree.{baseLeaf, inputLeaf, Tree, leaf, branch, tree}
 use Rattle.building.specs.Building.{Built, built, find, orElse, findOrMake, subtracted}
 use Rattle.read.specs.Readings.{isBase}
 use Rattle.lowering.specs.Lowering.{renamed, redirected, Lowering, substituted}
-use Rattle.lowering.proofs.Shape.{Expr, leafE, Shape, lf, shape, Unf, deg, baseS}
+use Rattle.lowering.proofs.Shape.{Expr, leafE, Shape, lf, shape, Unf, sub, deg, baseS}
 use Rattle.lowering.proofs.Steps.{Move, redirE, Stepped, step}
+use Rattle.lowering.proofs.Unfold.{one-tree}
 use Rattle.lowering.proofs.OneStep.{tree-after, tree-stays}
 use Rattle.lowering.proofs.Count.{unf-some}
 use Rattle.lowering.proofs.Words.{look, look-lt, Sound}
 use Rattle.lowering.proofs.Proper.{Proper, made-proper, redirected-proper}
-use Rattle.lowering.proofs.Made.{made-used, made-length, made-old, made-mark, look-made-old, look-made-new, look-made-back}
-use Rattle.lowering.proofs.Redirects.{redirected-used, redirected-room, redirected-length, redirected-loose, redirected-mark, redirected-kept, redirected-turned, redirected-leaf}
-use Rattle.lowering.proofs.Finds.{found, Grew, made-sound}
+use Rattle.lowering.proofs.Made.{made-row, made-used, made-length, made-old, made-mark, look-made-old, look-made-new, look-made-back}
+use Rattle.lowering.proofs.Redirects.{redirected-used, redirected-room, redirected-row, redirected-length, redirected-loose, redirected-mark, redirected-kept, redirected-turned, redirected-leaf}
+use Rattle.lowering.proofs.Finds.{found, Grew, unf-back, made-sound}
 use Rattle.lowering.proofs.Constraints.{Difference, HasMinus, operation-at, subtracted-got}
 
 -- the base test on a shape
@@ -173,6 +174,51 @@ module _ (m : List ℕ) (sound : Sound m) (s : ℕ) (u : Shape) (large : 3 ≤ d
         marks = λ i e p g q. grew-three .marks i (omega (arith, two-used, look-lt m i e p)) ∙ two-mark i q ∙ one-mark i (look-lt m i e p) ∙ g;
         mark-new = grew-three .marks (used m) (omega (arith, two-used)) ∙ two-mark (used m) (λ e. omega (arith, s-old)) ∙ new-mark;
       }
+
+  -- marks are never set again, and the chosen node's is gone
+  pub loose-after : (i : ℕ) → i < used m → registered m i ≡ false → registered (three .circuit) i ≡ false
+  loose-after i h g = go (ℕ-discrete i s)
+    where
+      go : Dec (i ≡ s) → registered (three .circuit) i ≡ false
+      go (yes e) = grew-three .marks i (omega (arith, two-used)) ∙ ap (λ (j : ℕ). registered two j) e ∙ two-loose
+      go (no e) = grew-three .marks i (omega (arith, two-used)) ∙ two-mark i e ∙ one-mark i h ∙ g
+
+  -- a registered node of the chosen one's shape is another node that was registered and had that shape
+  pub twin : (i : ℕ) → registered (three .circuit) i ≡ true → Unf (look (three .circuit)) u i → (i ≢ s) × (registered m i ≡ true) × Unf (look m) u i
+  twin i g w = go (decLt i (used m)) (decLt i (used two))
+    where
+      back : i < used two → Unf (look two) u i
+      back h = unf-back two (three .circuit) two-sound grew-three u i h w
+
+      other : i < used two → i ≢ s
+      other h e =
+          let k : registered two s ≡ true = sym (ap (λ (j : ℕ). registered two j) e) ∙ sym (grew-three .marks i h) ∙ g in
+          let z : registered two s ≡ false = two-loose in
+          let c : _≡_ {A = ℕ} 0 1 = cc in
+          omega arith
+
+      -- what the new input stands for put back, the chosen node's shape is that shape
+      chosen-same : sub y u u ≡ u
+      chosen-same = let (t, v, e) = tree-after move-two u s at-s in ap (sub y u) (one-tree (look two) u t s two-s v) ∙ e
+
+      go : Dec (i < used m) → Dec (i < used two) → (i ≢ s) × (registered m i ≡ true) × Unf (look m) u i
+      go (yes h) d =
+          let h₂ : i < used two = omega (arith, two-used) in
+          let (t, v) = sound .whole i h in
+          let (t′, v′, e) = tree-after move-two t i v in
+          let z : t ≡ u = sym e ∙ ap (sub y u) (one-tree (look two) t′ u i v′ (back h₂)) ∙ chosen-same in
+          (other h₂, sym (grew-three .marks i h₂ ∙ two-mark i (other h₂) ∙ one-mark i h) ∙ g, rw z at v)
+      go (no h) (yes k) =
+          let e : i ≡ used m = omega (arith, two-used) in
+          let (o, l, r, p) = operation-at (look two) u i large (back k) in
+          let q : look two i ≡ some (leafE (inputLeaf y)) = ap (look two) e ∙ move-two .new in
+          absurd (let z : _≡_ {A = ℕ} 0 1 = cc in omega arith)
+      go (no h) (no k) = absurd (difference .bare i (omega arith) w)
+
+  -- the row kind stays
+  pub row-after : getD (three .circuit) 0 0 ≡ getD m 0 0
+  unfolding one two
+  row-after = grew-three .row ∙ redirected-row s (used m) one (one-sound .room) s-used ∙ made-row m (Input y) (sound .room)
 
   -- the only new input is the one at y
   pub inputs-after : (i : ℕ) (q : Position) → look (three .circuit) i ≡ some (leafE (inputLeaf q)) → (look m i ≡ some (leafE (inputLeaf q))) ⊎ (q ≡ y)

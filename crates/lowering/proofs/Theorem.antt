@@ -1,5 +1,5 @@
 -- Demand 3, for every accepted lowering of any lent words. Assumes nothing.
-use Prim.Native.Nat.{ℕ, zero, suc, _+_, _-_, _≤_, _<_}
+use Prim.Native.Nat.{ℕ, zero, suc, _+_, _≤_, _<_}
 use mathlib.Core.Path.{_≡_, refl}
 use mathlib.Core.Logic.{_⊎_, inl, inr, ⊎-elim}
 use mathlib.Core.Bool.{Bool, true, false}
@@ -13,21 +13,20 @@ use Rattle.circuit.specs.Lists.{if_then_else_, any, In}
 use Rattle.circuit.specs.declared.node.Position.{Position}
 use Rattle.circuit.specs.declared.node.Position.the-variants.{Main, Aux}
 use Rattle.circuit.specs.declared.node.Op.the-variants.{Add}
-use Rattle.circuit.specs.Words.{expressionAt, column}
-use Rattle.circuit.specs.Tree.{inputLeaf, tree}
+use Rattle.circuit.specs.declared.node.Expression.the-variants.{Operation, Input}
+use Rattle.circuit.specs.Words.{column}
+use Rattle.circuit.specs.Tree.{tree}
 use Rattle.circuit.specs.Outcomes.{refusal}
 use Rattle.read.specs.Readings.{degree⁺}
 use Rattle.lowering.specs.Lowering.{Lowering, belowAbove, M, tooHigh, loop, lowered}
 use Rattle.lowering.specs.Calls.{testsThen, lowerCall, returned}
 use Rattle.lowering.specs.Demand.{Belongs, Demand3}
-use Rattle.lowering.proofs.Shape.{leafE, opE}
 use Rattle.lowering.proofs.Steps.{Standing, root, Rooted, Heavy}
 use Rattle.lowering.proofs.ListLaws.{clash, in-cases}
 use Rattle.lowering.proofs.Bound.{fewer}
 use Rattle.lowering.proofs.Exactly.{exactly-one}
-use Rattle.lowering.proofs.Words.{look, look-is, Sound, valid-sound}
+use Rattle.lowering.proofs.Words.{look, says, Sound, valid-sound}
 use Rattle.lowering.proofs.Chooses.{degree-is, all-registered, heavy-in, too-high, within}
-use Rattle.lowering.proofs.Constraints.{is-operation, is-input}
 use Rattle.lowering.proofs.OneMore.{State}
 use Rattle.lowering.proofs.Loops.{Ran, Ended, loop-ran}
 use Rattle.lowering.proofs.Assignments.{same-cells}
@@ -40,11 +39,11 @@ belongs m y q (n, p, hn, hq) =
     record {
       input = n;
       other = p;
-      is-input = is-input (expressionAt m n) y (look-is m n (leafE (inputLeaf y)) hn);
+      is-input = says m n (Input y) hn;
       is-sum =
           ⊎-elim
-          (λ h. inl (is-operation (expressionAt m q) Add n p (look-is m q (opE Add n p) h)))
-          (λ h. inr (is-operation (expressionAt m q) Add p n (look-is m q (opE Add p n) h))) hq;
+          (λ h. inl (says m q (Operation Add n p) h))
+          (λ h. inr (says m q (Operation Add p n) h)) hq;
     }
 
 -- nothing to do

@@ -7,14 +7,14 @@ use mathlib.Core.Option.{none, some}
 use mathlib.Core.List.{List, [], _∷_}
 use native.Mathlib.Decide.{decLt, decLe}
 use native.Mathlib.Omega.{arith}
-use lib.ListN.{length, getD}
+use lib.ListN.{length}
 use lib.Dec.{eqb, ltb, leb}
 use borrow.Author.Tests.{ltb-false, leb-false, not-false}
 use Rattle.circuit.specs.Lists.{upTo, any, In}
 use Rattle.circuit.specs.declared.node.Expression.{Expression}
 use Rattle.circuit.specs.declared.node.Expression.the-variants.{Base, Extension, Challenge, Operation, Input}
 use Rattle.circuit.specs.Words.{rowKind, used, limit, word, expressionAt}
-use Rattle.circuit.specs.Tree.{baseLeaf, extensionLeaf, challengeLeaf, inputLeaf, Tree, leaf, branch, treeOver, unfolded, tree, same}
+use Rattle.circuit.specs.Tree.{baseLeaf, extensionLeaf, challengeLeaf, inputLeaf, Tree, leaf, branch, treeOver, unfolded, tree, plain}
 use Rattle.circuit.specs.NotCircuit.{badExpression, badNode, goesOn, cyclic, badHeader, notCircuit}
 use Rattle.lowering.proofs.Shape.{Expr, leafE, opE, exprOf, Shape, lf, op, shape, Look, Unf, Whole, depth, pick}
 use Rattle.lowering.proofs.Steps.{Distinct}
@@ -46,6 +46,26 @@ pub look-is : (m : List ℕ) (i : ℕ) (e : Expr) → look m i ≡ some e → ex
 look-is m i e h =
     let k : look m i ≡ some (exprOf (expressionAt m i)) = look-in m i (look-lt m i e h) in
     cc
+
+-- and so what the words themselves say
+pub says : (m : List ℕ) (i : ℕ) (e : Expression) → look m i ≡ some (exprOf e) → expressionAt m i ≡ e
+says m i e h = sym (back (expressionAt m i)) ∙ ap said (look-is m i (exprOf e) h) ∙ back e
+  where
+    said : Expr → Expression
+    said (leafE a) = plain a
+    said (opE o l r) = Operation o l r
+
+    back : (e : Expression) → said (exprOf e) ≡ e
+    back (Base w) = refl
+    back (Extension x) = refl
+    back (Challenge k) = refl
+    back (Operation o l r) = refl
+    back (Input q) = refl
+
+-- a node that has a tree is used
+pub has-used : (m : List ℕ) (t : Shape) (i : ℕ) → Unf (look m) t i → i < used m
+has-used m (lf x) i p = look-lt m i (leafE x) p
+has-used m (op o a b) i (l, r, p, v, w) = look-lt m i (opE o l r) p
 
 -- the words are there, and every id has a tree
 pub record Sound (m : List ℕ) : Type 0 where

@@ -1,0 +1,40 @@
+// The tables that a circuit is evaluated on, in one list of lent words: 256 main columns and the same of the next row, 256 auxiliary columns and the
+// same of the next row, and 256 challenges. A main column is a word, the others are three.
+use crate::tally::put;
+use crate::text::after;
+use crate::text::number;
+ghost use Prim.Native.Nat.{_<_};
+
+pub const MAIN: usize = 0;
+
+pub const NEXT_MAIN: usize = 256;
+
+pub const AUX: usize = 512;
+
+pub const NEXT_AUX: usize = 1280;
+
+pub const CHALLENGES: usize = 2048;
+
+pub const TABLES: usize = 2816;
+
+// Three words from `at` on.
+fn put_triple(tables: &mut [u64], at: usize, text: &[u8])
+    requires { ⌜ at < 4096 ⌝ }
+{
+    put(tables, at, number(text, 0, 16));
+    put(tables, at + 1, number(text, 16, 16));
+    put(tables, at + 2, number(text, 32, 16));
+}
+
+// A cell: its kind, its column or number, its value.
+pub fn cell(tables: &mut [u64], line: &[u8]) {
+    let i = (number(line, 3, 4) % 256) as usize;
+    let value = after(line, 7);
+    match number(line, 1, 2) {
+        2 => put_triple(tables, CHALLENGES + 3 * i, value),
+        5 => put(tables, MAIN + i, number(value, 0, 16)),
+        6 => put_triple(tables, AUX + 3 * i, value),
+        7 => put(tables, NEXT_MAIN + i, number(value, 0, 16)),
+        _ => put_triple(tables, NEXT_AUX + 3 * i, value),
+    }
+}

@@ -1,0 +1,131 @@
+// What was counted so far, in lent words, by these places.
+use crate::text::number;
+
+// As in a file's last record: circuits, frames, sums, lowerings, substitutions, dumps, nodes.
+pub const CIRCUITS: usize = 0;
+
+pub const FRAMES: usize = 1;
+
+pub const SUMS: usize = 2;
+
+pub const LOWERINGS: usize = 3;
+
+pub const SUBSTITUTIONS: usize = 4;
+
+pub const DUMPS: usize = 5;
+
+pub const NODES: usize = 6;
+
+// The numbers compared, and the records of which one was another.
+pub const COMPARED: usize = 7;
+
+pub const DIFFER: usize = 8;
+
+// How many of the above there are, to be added over files.
+pub const SUMMED: usize = 9;
+
+// 1 where the record at hand differs.
+pub const WRONG: usize = 9;
+
+// The line at hand, from 1.
+pub const LINE: usize = 10;
+
+// 1 from a call to its answer.
+pub const CALLED: usize = 11;
+
+// 1 or 2.
+pub const ROWS: usize = 12;
+
+// Of the dump at hand: the nodes so far, those of them that are registered, and those that are the least of their structure; the number of nodes
+// that shall be registered; whether nodes have values; and the walks or lists of counts so far.
+pub const NODE: usize = 13;
+
+pub const REGISTERED: usize = 14;
+
+pub const LEAST: usize = 15;
+
+pub const SAID: usize = 16;
+
+pub const VALUED: usize = 17;
+
+pub const PLACE: usize = 18;
+
+// 1 once the last record has come.
+pub const ENDED: usize = 19;
+
+// From here on, of the dump at hand, each node's class.
+pub const CLASSES: usize = 20;
+
+// Room for the classes of 512 nodes.
+pub const TALLY: usize = 532;
+
+// Word i, 0 beyond the end.
+pub fn get(s: &[u64], i: usize) -> u64 {
+    if i < s.len() {
+        return s[i];
+    }
+    0
+}
+
+// Sets word i; beyond the end nothing.
+pub fn put(s: &mut [u64], i: usize, v: u64) {
+    if i < s.len() {
+        s[i] = v;
+    }
+}
+
+// The words from `from` to `end`; none where there are fewer.
+pub fn part(s: &[u64], from: usize, end: usize) -> &[u64] {
+    if from <= end {
+        if end <= s.len() {
+            return &s[from..end];
+        }
+    }
+    &s[..0]
+}
+
+pub fn add(t: &mut [u64], i: usize, n: u64) {
+    put(t, i, std::num::wrapping_add_u64(get(t, i), n));
+}
+
+// One number compared: what the project says, and what the vectors say.
+pub fn compare(t: &mut [u64], got: u64, want: u64) {
+    add(t, COMPARED, 1);
+    if got != want {
+        put(t, WRONG, 1);
+    }
+}
+
+// Compares words with the numbers of so many digits that are all of a text.
+pub fn compare_list(t: &mut [u64], words: &[u64], text: &[u8], digits: usize) {
+    let mut at: usize = 0;
+    let mut k: usize = 0;
+    while k < words.len() {
+        compare(t, words[k], number(text, at, digits));
+        at = std::num::wrapping_add_usize(at, digits);
+        k += 1;
+    }
+    compare(t, at as u64, text.len() as u64);
+}
+
+// A file's last record.
+pub fn compare_totals(t: &mut [u64], line: &[u8]) {
+    let mut k: usize = 0;
+    let mut at: usize = 1;
+    while k < COMPARED {
+        let counted = get(t, k);
+        compare(t, counted, number(line, at, 8));
+        at = std::num::wrapping_add_usize(at, 8);
+        k += 1;
+    }
+    put(t, ENDED, 1);
+}
+
+// Adds one file's counts to the totals of all.
+pub fn add_all(totals: &mut [u64], t: &[u64]) {
+    let mut k: usize = 0;
+    while k < SUMMED {
+        add(totals, k, get(t, k));
+        k += 1;
+    }
+}
