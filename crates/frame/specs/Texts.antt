@@ -8,7 +8,8 @@ use Rattle.circuit.specs.Words.{used, offset}
 use Rattle.circuit.specs.Outcomes.{Outcome}
 use Rattle.read.specs.Calls.{degreeCall}
 use Rattle.read.specs.Examples.{integer, words}
-use Rattle.frame.specs.Frames.{State, lineAnswer, fresh, lines, frames}
+use Rattle.frame.specs.States.{State, rootsOf, fresh}
+use Rattle.frame.specs.Frames.{lineAnswer, lines, frames}
 use Rattle.frame.specs.Computing.{frameComputes}
 
 -- the bytes of a text
@@ -29,7 +30,7 @@ unfoldable pub circuitAfter : String → List ℕ
 circuitAfter text = after fresh (lines (bytes text)) .circuit
 
 unfoldable pub rootsAfter : String → List ℕ
-rootsAfter text = after fresh (lines (bytes text)) .roots
+rootsAfter text = rootsOf (after fresh (lines (bytes text)) .roots)
 
 -- the used count, and the words of n nodes from node i on, after this input
 unfoldable pub nodes : ℕ → ℕ → String → List ℕ

@@ -1,0 +1,3 @@
+-- Reading order: as listed.
+pub mod Answers
+pub mod Numbers
