@@ -36,7 +36,10 @@ use Rattle.grown.specs.Results.{Unique}
 use Rattle.grown.specs.Grown as grown
 use Rattle.grown.specs.Grown.{Grown}
 use Rattle.grown.specs.Invariants.{Invariants}
-use Rattle.grown.proofs.Built.{Builds, leaf-builds, constant-leaf, operate-operates, negate-negates, subtract-subtracts, sum-sums}
+use Rattle.grown.proofs.Built.{Builds}
+use Rattle.grown.proofs.Found.{leaf-builds}
+use Rattle.grown.proofs.Operates.{constant-leaf, operate-operates}
+use Rattle.grown.proofs.Several.{negate-negates, subtract-subtracts, sum-sums}
 use Rattle.grown.proofs.Alike.{unique-one}
 use Rattle.grown.proofs.Lowers.{lower-unique}
 use Rattle.grown.proofs.Counted.{all-counted, same-circuit, same-unique}

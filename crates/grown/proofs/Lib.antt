@@ -1,4 +1,7 @@
 pub mod Built
+pub mod Found
+pub mod Operates
+pub mod Several
 pub mod Alike
 pub mod Substituted
 pub mod Differences
@@ -12,4 +15,9 @@ pub mod Stores
 pub mod Agrees
 pub mod Evaluates
 pub mod Remains
+pub mod Meant
 pub mod Filled
+pub mod Called
+pub mod Examples
+pub mod Outcomes
+pub mod Refusals

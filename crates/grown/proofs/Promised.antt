@@ -47,6 +47,10 @@ one-choice mc ac m roots after a h (b, f) =
       only = λ v z. choice-is mc k ac l a v b (f .only (with-new mc ac a (v .main) (v .aux)) (new-cells mc k ac l a v h) (but-new mc k ac l a v) z);
     }
 
+-- for every lowering that is accepted, of any lent words
+pub accepted-one : (target mainCount auxCount : ℕ) (lent : Lowering) → lowerCall target mainCount auxCount lent .number ≡ 0 → (a : Assignment) → Cells a → ExactlyOne mainCount auxCount (lent .circuit) (lent .roots) (returned (lowerCall target mainCount auxCount lent)) a
+accepted-one T mc ac lent h a c = one-choice mc ac (lent .circuit) (lent .roots) (returned (lowerCall T mc ac lent)) a c (demand3 T mc ac lent h .exactly-one a c)
+
 -- no used node reads a column that a list of constraints adds
 unread : (target mainCount auxCount : ℕ) (lent : Lowering) → lowerCall target mainCount auxCount lent .number ≡ 0 → tooHigh target (lent .circuit) (lent .roots) ≡ true → (i : ℕ) → i < used (lent .circuit) → (q : Position) → expressionAt (lent .circuit) i ≡ Input q → Taken (mainCount + 0) (auxCount + 0) q
 unread T mc ac lent h high i l q e =
@@ -98,7 +102,7 @@ promised T mc ac lent g h =
     let after : Lowering = returned (lowerCall T mc ac lent) in
     let stands : Stands mc ac (returned (lowerCall T mc ac lent)) = lower-stands T mc ac lent h (grown-good (lent .circuit) g .unique) in
     record {
-      exactly-one = λ a c. one-choice mc ac (lent .circuit) (lent .roots) (returned (lowerCall T mc ac lent)) a c (d .exactly-one a c);
+      exactly-one = accepted-one T mc ac lent h;
       degrees = λ i k. within T (returned (lowerCall T mc ac lent) .circuit) i (d .degrees i k);
       no-new = d .no-new;
       fewer = d .fewer;

@@ -25,7 +25,7 @@ use Rattle.lowering.proofs.Substitutes.{two, three, one-length, one-mark, move-
 use Rattle.build.proofs.Runs.{not-full}
 use Rattle.grown.specs.Results.{Unique}
 use Rattle.grown.proofs.Alike.{like-alike, unlike, like-before, new-unlike}
-use Rattle.grown.proofs.Built.{subtract-subtracts}
+use Rattle.grown.proofs.Several.{subtract-subtracts}
 
 pub limit-same : (m m′ : List ℕ) → length m′ ≡ length m → limit m′ ≡ limit m
 unfolding limit

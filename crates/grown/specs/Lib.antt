@@ -4,3 +4,6 @@ pub mod Grown
 pub mod Invariants
 pub mod Promise
 pub mod Evaluated
+pub mod Outcomes
+pub mod Examples
+pub mod Refusals

@@ -15,7 +15,7 @@ use Rattle.lower.specs.declared.next.Next.{Next}
 use Rattle.lower.specs.declared.next.Next.the-variants.{Node, Done}
 use Rattle.lower.specs.declared.substitute.Constraint.{Constraint}
 use Rattle.lower.specs.declared.calls.Progress.{Progress}
-use Rattle.lower.specs.Survey.{chosenNext, nextOf}
+use Rattle.lower.specs.Survey.{chosenNext, Picked}
 use Rattle.lower.specs.Substituting.{newInput, turned, difference, Substitutable, Replaced}
 use Rattle.lower.specs.Advancing.{Holds, Added, chosen, advanced, Ready, Advanced}
 
@@ -80,7 +80,7 @@ module _ (mc ac s : ℕ) (x : Lowering) where
         let q : isBase (tree (x .circuit) s) ≡ b = sym (rep .to-main) ∙ e in
         (main-list ∙ rw (q, ← rep .id), aux-list ∙ rw (q, ← rep .id))
 
-module _ (T mc ac : ℕ) (words : Lowering) (p : Progress) (ready : Ready T mc ac words (p .main) (p .aux)) (n : Next) (told : nextOf n ≡ chosenNext T (words .circuit) (words .roots)) where
+module _ (T mc ac : ℕ) (words : Lowering) (p : Progress) (ready : Ready T mc ac words (p .main) (p .aux)) (n : Next) (picked : Picked T (words .circuit) (words .roots) n) where
   -- nothing is left to do
   stays-is : tooHigh T (words .circuit) (words .roots) ≡ false → (x : Lowering) → words .circuit ≡ x .circuit → words .roots ≡ x .roots → advanced T mc ac x ≡ x
   unfolding advanced
@@ -88,15 +88,15 @@ module _ (T mc ac : ℕ) (words : Lowering) (p : Progress) (ready : Ready T mc a
 
   pub stays : n ≡ Done → Advanced T mc ac words words p (record { main = p .main; aux = p .aux; more = false })
   stays e =
-      let low = told-done T (words .circuit) (words .roots) (rw e at told) in
+      let low = told-done T (words .circuit) (words .roots) (rw e at (picked .told)) in
       record { more = sym low; on = λ lent x h. rw (stays-is low x (h .circuit) (h .roots)) h }
 
-  module _ (s : ℕ) (is : n ≡ Node s) where
+  module _ (s : ℕ) (base : Bool) (is : n ≡ Node s base) where
     told-both : (tooHigh T (words .circuit) (words .roots) ≡ true) × (s ≡ chosen T mc ac words)
-    told-both = told-node T (words .circuit) (words .roots) s (rw is at told)
+    told-both = told-node T (words .circuit) (words .roots) s (rw is at (picked .told))
 
-    pub can-substitute : Substitutable (words .circuit) s (mc + p .main) (ac + p .aux)
-    can-substitute = rw (told-both .1) (ready .can (told-both .0))
+    pub can-substitute : Substitutable (words .circuit) s (mc + p .main) (ac + p .aux) × (base ≡ isBase (tree (words .circuit) s))
+    can-substitute = let q : Substitutable (words .circuit) s (mc + p .main) (ac + p .aux) = rw (told-both .1) (ready .can (told-both .0)) in (q, picked .base s base is (q .here))
 
     advanced-is : (x : Lowering) → words .circuit ≡ x .circuit → words .roots ≡ x .roots → advanced T mc ac x ≡ substituted mc ac x s
     unfolding advanced

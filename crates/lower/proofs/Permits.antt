@@ -1,24 +1,21 @@
 -- What one substitution asks, call by call, where its circuits fit. Assumes nothing.
-use Prim.Native.Nat.{ℕ, suc, _+_, _*_, _≤_, _<_}
-use mathlib.Core.Path.{_≡_, refl, sym, _∙_, ap}
+use Prim.Native.Nat.{ℕ, suc, _≤_, _<_}
+use mathlib.Core.Path.{_≡_, sym, _∙_, ap}
 use mathlib.Core.Logic.{_≢_}
-use mathlib.Core.Bool.{Bool, true, false, _||_}
+use mathlib.Core.Bool.{true, false}
 use mathlib.Core.Option.{some}
 use mathlib.Core.List.{List}
 use native.Mathlib.Omega.{arith}
 use lib.ListN.{length}
-use lib.Dec.{ltb}
 use borrow.Author.Tests.{le-ltb}
 use Rattle.circuit.specs.declared.node.Position.{Position}
-use Rattle.circuit.specs.declared.node.Expression.{Expression}
 use Rattle.circuit.specs.declared.node.Expression.the-variants.{Input}
-use Rattle.circuit.specs.Words.{used, limit, column, isMain, isNext, made}
+use Rattle.circuit.specs.Words.{used, limit, column, isMain, isNext}
 use Rattle.circuit.specs.Tree.{inputLeaf, tree}
-use Rattle.circuit.specs.NotCircuit.{notCircuit, badExpression, badRow}
-use Rattle.building.specs.Building.{Built, built, findOrMake, subtracted, full}
+use Rattle.circuit.specs.NotCircuit.{notCircuit}
+use Rattle.building.specs.Building.{Built, built, findOrMake, full}
 use Rattle.read.specs.Readings.{isBase}
-use Rattle.lowering.specs.Lowering.{redirected}
-use Rattle.lower.specs.Substituting.{inputAt, Roomy, Fitting, Differing, newInput, turned, Substitutable}
+use Rattle.lower.specs.Substituting.{inputAt, Fresh, Differing, newInput, turned, Substitutable}
 use Rattle.lowering.proofs.Shape.{leafE, Shape, Unf, deg, baseS}
 use Rattle.lowering.proofs.Words.{look, look-lt, Sound}
 use Rattle.lowering.proofs.Proper.{Proper, circuit-of}
@@ -63,16 +60,11 @@ module _ (m : List ℕ) (sound : Sound m) (s : ℕ) (u : Shape) (large : 3 ≤ d
       (two-proper m sound s u large at-s y fresh kind (one-proper m sound s u large at-s y fresh kind small current proper))
       (rw (same-limit W m turned-length) (omega (arith, new-there, room, turned-used)))
 
-  good-input : badExpression m (Input y) ≡ false
-  unfolding badExpression badRow
-  good-input = rw (le-ltb 65535 (column y) small, current)
-
   input-is : findOrMake m (Input y) ≡ built O (used m)
   input-is = input-made m sound s u large at-s y fresh kind ∙ ap (λ (l : List ℕ). built l (used m)) (sym (one-is m sound s u large at-s y fresh kind))
 
-  input-fits : Fitting m (Input y)
-  unfolding full
-  input-fits = record { roomy = record { valid = valid; room = rw input-is (le-ltb (limit m) (used O) (omega (arith, new-there, room, input-used))) }; good = good-input }
+  input-fresh : Fresh m (Input y)
+  input-fresh = record { valid = valid; new = input-made m sound s u large at-s y fresh kind; room = omega (arith, new-there, room) }
 
   difference-fits : Differing W (used m) s
   unfolding full
@@ -90,7 +82,7 @@ module _ (m : List ℕ) (sound : Sound m) (s : ℕ) (u : Shape) (large : 3 ≤ d
       record {
         valid = valid;
         here = s-old m sound s u large at-s y fresh kind;
-        input = rw e input-fits;
+        input = rw e input-fresh;
         still = rw (e, input-is) (omega (arith, input-used, s-old m sound s u large at-s y fresh kind));
         inside = rw (e, input-is) input-valid;
         constraint = rw (e, input-is, ← two-is m sound s u large at-s y fresh kind) difference-fits;

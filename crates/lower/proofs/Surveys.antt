@@ -1,15 +1,16 @@
 -- The tables of a lowering: they are what the choice asks for. Assumes nothing.
-use Prim.Native.Nat.{ℕ, zero, suc, _<_, _≤_}
-use mathlib.Core.Path.{_≡_, refl, sym, _∙_, ap}
-use mathlib.Core.Bool.{Bool, true, false, not}
+use Prim.Native.Nat.{ℕ, suc, _<_, _≤_}
+use mathlib.Core.Path.{_≡_, refl, sym, _∙_}
+use mathlib.Core.Bool.{Bool, true, false}
 use mathlib.Core.Option.{none, some}
 use mathlib.Core.List.{List, [], _∷_}
 use native.Mathlib.Omega.{arith}
 use lib.ListN.{length, take}
-use lib.Dec.{leb}
+use lib.Dec.{leb, eqb}
 use borrow.Author.Tests.{lt-leb}
-use Rattle.circuit.specs.Lists.{if_then_else_, upTo, In, any, keep}
+use Rattle.circuit.specs.Lists.{if_then_else_, upTo, any, keep, bit}
 use Rattle.circuit.specs.Words.{used}
+use Rattle.circuit.specs.Tree.{tree}
 use Rattle.circuit.specs.NotCircuit.{notCircuit, badId}
 use Rattle.circuit.specs.Rank.{at, Sorted, Checked}
 use Rattle.circuit.proofs.Tests.{is-false}
@@ -17,11 +18,14 @@ use Rattle.circuit.proofs.Lists.{clash, upTo-length}
 use Rattle.paths.specs.Counting.{PathCounts, Countable}
 use Rattle.paths.proofs.Below.{any-some}
 use Rattle.paths.proofs.Counts.{valid-top}
+use Rattle.read.specs.Readings.{isBase}
 use Rattle.read.specs.Tables.{Filled, Ranked, AllAsked}
 use Rattle.read.specs.Degrees.{degreeTo}
+use Rattle.read.specs.Bases.{baseBit}
 use Rattle.lowering.specs.Lowering.{tooHigh}
 use Rattle.lower.specs.Tables.{Degrees, aboveIn, isHighIn, highIn, Listed, bestIn}
-use Rattle.lower.specs.Survey.{Surveyed, Occurring, Choosable, chosenNext}
+use Rattle.lower.specs.Survey.{Surveyed, Occurring, Choosable, chosenNext, Picked}
+use Rattle.lower.specs.declared.next.Next.the-variants.{Node, Done}
 use Rattle.lowering.proofs.ListLaws.{in-keep, in-upTo}
 use Rattle.lower.proofs.Readings.{high-is, best-is, too-high-is, small-target}
 
@@ -29,10 +33,23 @@ use Rattle.lower.proofs.Readings.{high-is, best-is, too-high-is, small-
 pub checked-sorted : (m order rank : List ℕ) (b : Bool) → notCircuit m ≡ false → Checked m order rank b → Sorted m order rank
 checked-sorted m order rank b valid c = c .sorted (c .told ∙ rw valid)
 
+ranked-of : (m order rank : List ℕ) → notCircuit m ≡ false → Sorted m order rank → Ranked m rank
+ranked-of m order rank valid s = record { valid = valid; left-first = s .left-first; right-first = s .right-first }
+
+pub all-ranked : (m rank table : List ℕ) → Ranked m rank → 4096 ≤ length table → AllAsked 1 m rank table
+all-ranked m rank table r room = let t = valid-top m (r .valid) in record { ranked = r; room = omega arith }
+
 pub all-asked : (m order rank table : List ℕ) → notCircuit m ≡ false → Sorted m order rank → 4096 ≤ length table → AllAsked 1 m rank table
-all-asked m order rank table valid s room =
-    let t = valid-top m valid in
-    record { ranked = record { valid = valid; left-first = s .left-first; right-first = s .right-first }; room = omega arith }
+all-asked m order rank table valid s room = all-ranked m rank table (ranked-of m order rank valid s) room
+
+-- the base test from its bit
+pub base-told : (m bits : List ℕ) (s e : ℕ) → Filled (used m) (at bits) (baseBit m) → s < used m → e ≡ at bits s → eqb e 1 ≡ isBase (tree m s)
+unfolding baseBit
+base-told m bits s e f l q = rw (q, f .told s l) (go (isBase (tree m s)))
+  where
+    go : (b : Bool) → eqb (bit b) 1 ≡ b
+    go true = refl
+    go false = refl
 
 pub degrees-told : (m degrees : List ℕ) → Filled (used m) (at degrees) (degreeTo m) → Degrees m degrees
 unfolding degreeTo
@@ -69,14 +86,30 @@ module _ (target : ℕ) (m roots order rank degrees counts : List ℕ) (c : Choo
   told-high : b ≡ tooHigh target m roots
   told-high = told ∙ too-high-is m degrees (s .all-degrees) roots (c .valid) (c .ids) (c .degree) target
 
-  pub next-done : b ≡ false → none ≡ chosenNext target m roots
+  next-done : b ≡ false → none ≡ chosenNext target m roots
   unfolding chosenNext
   next-done h = rw (sym told-high ∙ h)
 
-  pub next-node : b ≡ true → (found : List ℕ) (r : ℕ) → PathCounts m (highIn degrees counts target (used m)) found → r ≡ bestIn degrees found target (used m) → some r ≡ chosenNext target m roots
+  next-node : b ≡ true → (found : List ℕ) (r : ℕ) → PathCounts m (highIn degrees counts target (used m)) found → r ≡ bestIn degrees found target (used m) → some r ≡ chosenNext target m roots
   unfolding chosenNext
   next-node h found r p e =
       let high : tooHigh target m roots ≡ true = sym told-high ∙ h in
       let small = small-target m roots (c .valid) (c .ids) (c .degree) target high in
       let q = rw (high-is m degrees (s .all-degrees) roots counts (s .all-counts) target small) at p in
       rw (high, e, best-is m degrees (s .all-degrees) target roots found small q (c .few))
+
+  pub picked-done : b ≡ false → Picked target m roots Done
+  picked-done h = record { told = next-done h; base = λ s c e l. absurd (let z : _≡_ {A = ℕ} 0 1 = cc in omega arith) }
+
+  pub ranked : Ranked m rank
+  ranked = ranked-of m order rank (c .valid) (s .sorted)
+
+  pub picked-node : b ≡ true → (found : List ℕ) (r : ℕ) → PathCounts m (highIn degrees counts target (used m)) found → r ≡ bestIn degrees found target (used m) → (main : Bool) → (r < used m → main ≡ isBase (tree m r)) → Picked target m roots (Node r main)
+  picked-node h found r p e main f =
+      record {
+        told = next-node h found r p e;
+        base = λ q d w l.
+            let y : r ≡ q = cc in
+            let z : main ≡ d = cc in
+            rw (← y, ← z) (f (rw y l));
+      }

@@ -1,11 +1,11 @@
 -- The refusals of a lowering, as the two groups of tests give them, and the tests as the tables give them. Assumes nothing.
-use Prim.Native.Nat.{ℕ, _+_, _-_, _*_}
+use Prim.Native.Nat.{ℕ, _+_, _-_}
 use mathlib.Core.Path.{_≡_}
 use mathlib.Core.Bool.{Bool, false, _&&_, _||_}
 use mathlib.Core.List.{List, [], _∷_}
 use lib.Dec.{ltb}
 use Rattle.circuit.specs.Lists.{any, upTo}
-use Rattle.circuit.specs.Words.{used, limit, expressionAt}
+use Rattle.circuit.specs.Words.{used, expressionAt}
 use Rattle.circuit.specs.NotCircuit.{notCircuit, badId}
 use Rattle.circuit.specs.Outcomes.{refusal}
 use Rattle.paths.specs.Paths.{paths}

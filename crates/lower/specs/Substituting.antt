@@ -7,10 +7,10 @@ use Rattle.circuit.specs.declared.node.Position.the-variants.{Main, Aux}
 use Rattle.circuit.specs.declared.node.Expression.{Expression}
 use Rattle.circuit.specs.declared.node.Expression.the-variants.{Input}
 use Rattle.circuit.specs.Lists.{if_then_else_}
-use Rattle.circuit.specs.Words.{used}
+use Rattle.circuit.specs.Words.{used, limit, made}
 use Rattle.circuit.specs.Tree.{tree}
-use Rattle.circuit.specs.NotCircuit.{notCircuit, badExpression}
-use Rattle.building.specs.Building.{Built, findOrMake, subtracted, full}
+use Rattle.circuit.specs.NotCircuit.{notCircuit}
+use Rattle.building.specs.Building.{Built, built, findOrMake, subtracted, full}
 use Rattle.read.specs.Readings.{isBase}
 use Rattle.lower.specs.declared.substitute.Constraint.{Constraint}
 use Rattle.lowering.specs.Lowering.{renamed, redirected}
@@ -24,10 +24,11 @@ pub record Roomy (m : List ℕ) (b : Built) : Type 0 where
   pub valid : notCircuit m ≡ false
   pub room : full m b ≡ false
 
--- an expression that can be a node, and room for it
-pub record Fitting (m : List ℕ) (e : Expression) : Type 0 where
-  pub roomy : Roomy m (findOrMake m e)
-  pub good : badExpression m e ≡ false
+-- an expression that no node is, and room for it
+pub record Fresh (m : List ℕ) (e : Expression) : Type 0 where
+  pub valid : notCircuit m ≡ false
+  pub new : findOrMake m e ≡ built (made m e) (used m)
+  pub room : used m < limit m
 
 -- two nodes, and room for their difference
 pub record Differing (m : List ℕ) (n s : ℕ) : Type 0 where
@@ -56,7 +57,7 @@ module _ (m : List ℕ) (s mainColumn auxColumn : ℕ) where
   pub record Substitutable : Type 0 where
     pub valid : notCircuit m ≡ false
     pub here : s < used m
-    pub input : Fitting m (inputAt (isBase (tree m s)) mainColumn auxColumn)
+    pub input : Fresh m (inputAt (isBase (tree m s)) mainColumn auxColumn)
     pub still : s < used (newInput .circuit)
     pub inside : notCircuit (newInput .circuit) ≡ false
     pub constraint : Differing turned (newInput .id) s

@@ -1,14 +1,17 @@
 -- The tables of a lowering, filled anew for each choice: what filling them asks and gives. Assumes nothing.
-use Prim.Native.Nat.{ℕ, _≤_}
+use Prim.Native.Nat.{ℕ, _<_, _≤_}
 use mathlib.Core.Path.{_≡_}
-use mathlib.Core.Bool.{false}
+use mathlib.Core.Bool.{Bool, false}
 use mathlib.Core.Option.{Option, none, some}
 use mathlib.Core.List.{List}
 use lib.ListN.{length}
 use Rattle.circuit.specs.Lists.{if_then_else_}
+use Rattle.circuit.specs.Words.{used}
+use Rattle.circuit.specs.Tree.{tree}
 use Rattle.circuit.specs.NotCircuit.{notCircuit, badId}
 use Rattle.circuit.specs.Rank.{Sorted}
 use Rattle.paths.specs.Counting.{PathCounts}
+use Rattle.read.specs.Readings.{isBase}
 use Rattle.read.specs.Refusals.{overDegree}
 use Rattle.lower.specs.declared.next.Next.{Next}
 use Rattle.lower.specs.declared.next.Next.the-variants.{Node, Done}
@@ -51,5 +54,10 @@ unfoldable pub chosenNext : ℕ → List ℕ → List ℕ → Option ℕ
 chosenNext target m roots = let s = best (candidates target m roots) in if tooHigh target m roots then some s else none
 
 abbrev pub nextOf : Next → Option ℕ
-nextOf (Node s) = some s
+nextOf (Node s b) = some s
 nextOf Done = none
+
+-- the choice, with the base test of a node that there is
+pub record Picked (target : ℕ) (m roots : List ℕ) (r : Next) : Type 0 where
+  pub told : nextOf r ≡ chosenNext target m roots
+  pub base : (s : ℕ) (b : Bool) → r ≡ Node s b → s < used m → b ≡ isBase (tree m s)

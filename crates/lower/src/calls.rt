@@ -66,10 +66,10 @@ fn one_more(
             aux: progress.aux,
             more: false,
         },
-        Next::Node(s) => {
+        Next::Node(s, base) => {
             let main_column = main_count + progress.main;
             let aux_column = aux_count + progress.aux;
-            let c = substitute(m, roots, s, main_column, aux_column);
+            let c = substitute(m, roots, s, base, main_column, aux_column);
             add_constraint(c, main, aux, progress)
         }
     }

@@ -1,19 +1,26 @@
 // The next choice, with tables that are filled anew: each pass looks at every node once, whatever the paths are.
 use crate::choose::best_candidate;
+use crate::choose::entry;
 use crate::choose::high_nodes;
 use crate::tests::too_high;
 use circuit::check::check;
 use paths::counting::count_paths;
+use read::base_test::bases;
 use read::degree;
 ghost use mathlib.Core.Path.{_≡_};
+ghost use Prim.Native.Nat.{_<_, _≤_};
+ghost use lib.ListN.{length};
 ghost use Rattle.circuit.specs.Words.{used};
+ghost use Rattle.circuit.specs.Tree.{tree};
 ghost use Rattle.paths.specs.Counting.{PathCounts};
+ghost use Rattle.read.specs.Readings.{isBase};
+ghost use Rattle.read.specs.Tables.{Ranked};
 ghost use Rattle.lower.specs.Tables.{highIn};
-ghost use Rattle.lower.specs.Survey.{Surveyable, Surveyed, Occurring, Choosable, chosenNext, nextOf};
+ghost use Rattle.lower.specs.Survey.{Surveyable, Surveyed, Occurring, Choosable, Picked};
 
-// The node to substitute next, or that no root's degree exceeds the target.
+// The node to substitute next, and its base test; or that no root's degree exceeds the target.
 pub enum Next {
-    Node(u64),
+    Node(u64, bool),
     Done,
 }
 
@@ -52,10 +59,19 @@ pub fn occurrences(
     count_paths(m, order, rank, &high[..many], found);
 }
 
+// The base test of node s. The bits of all nodes are left in a list of the caller's, which has no other use for it any more.
+fn is_base(m: &[u64], rank: &[u64], bits: &mut [u64], s: u64) -> bool
+    requires { ⌜ Ranked (now m) (now rank) × (4096 ≤ length (now bits)) ⌝ }
+    ensures { λ r. ⌜ (s < used (now (m .entry)) → r ≡ isBase (tree (now (m .entry)) s)) ⌝ }
+{
+    bases(m, rank, bits);
+    entry(bits, s) == 1
+}
+
 // Chooses among the candidates, where some root's degree exceeds the target.
 pub fn next_choice(m: &[u64], roots: &[u64], target: u64) -> Next
     requires { ⌜ Choosable target (now m) (now roots) ⌝ }
-    ensures { λ r. ⌜ nextOf r ≡ chosenNext target (now (m .entry)) (now (roots .entry)) ⌝ }
+    ensures { λ r. ⌜ Picked target (now (m .entry)) (now (roots .entry)) r ⌝ }
 {
     let mut order = [0u64; 4096];
     let mut rank = [0u64; 4096];
@@ -77,5 +93,6 @@ pub fn next_choice(m: &[u64], roots: &[u64], target: u64) -> Next
         &mut high,
         &mut found,
     );
-    Next::Node(best_candidate(&degrees, &found, target, m[1]))
+    let s = best_candidate(&degrees, &found, target, m[1]);
+    Next::Node(s, is_base(m, &rank, &mut high, s))
 }

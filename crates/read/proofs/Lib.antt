@@ -2,6 +2,7 @@
 pub mod Lists
 pub mod Tables
 pub mod Degrees
+pub mod Along
 pub mod Bases
 pub mod Values
 pub mod Highest

@@ -8,9 +8,10 @@ use lib.Dec.{ltb, eqb}
 use Rattle.circuit.specs.declared.node.Op.{Op}
 use Rattle.circuit.specs.declared.node.Op.the-variants.{Add, Multiply}
 use Rattle.circuit.specs.declared.node.Expression.{Expression}
+use Rattle.circuit.specs.declared.node.Expression.the-variants.{Operation}
 use Rattle.circuit.specs.Words.{used, expressionAt}
 use Rattle.circuit.specs.NotCircuit.{notCircuit}
-use Rattle.circuit.specs.Rank.{at}
+use Rattle.circuit.specs.Rank.{at, Sorted}
 use Rattle.circuit.specs.Tree.{tree}
 use Rattle.read.specs.Readings.{leafDegree⁺, productDegree⁺, degree⁺}
 use Rattle.read.specs.Tables.{unknown, leafEntry}
@@ -51,3 +52,17 @@ pub record Counted (m counts table : List ℕ) : Type 0 where
 -- each root has an entry
 pub record Rows (roots table : List ℕ) : Type 0 where
   pub below : (k : ℕ) → k < length roots → at roots k < length table
+
+-- a circuit with its nodes in order, and room for a degree of each
+pub record Ordered (m order rank table : List ℕ) : Type 0 where
+  pub valid : notCircuit m ≡ false
+  pub sorted : Sorted m order rank
+  pub order-room : used m ≤ length order
+  pub room : used m ≤ length table
+
+-- node i, whose operands have their degrees
+pub record Joinable (m table : List ℕ) (i : ℕ) : Type 0 where
+  pub valid : notCircuit m ≡ false
+  pub here : i < used m
+  pub room : used m ≤ length table
+  pub operands : (o : Op) (l r : ℕ) → expressionAt m i ≡ Operation o l r → (at table l ≡ degreeTo m l) × (at table r ≡ degreeTo m r)

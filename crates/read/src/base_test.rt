@@ -12,9 +12,12 @@ use circuit::refusal::BAD_ID;
 use circuit::refusal::NOT_CIRCUIT;
 ghost use mathlib.Core.Path.{_≡_};
 ghost use Rattle.circuit.specs.Lists.{bit};
+ghost use Prim.Native.Nat.{_<_};
 ghost use Rattle.circuit.specs.Words.{used, isMain};
+ghost use Rattle.circuit.specs.Tree.{tree};
 ghost use Rattle.circuit.specs.Rank.{at};
-ghost use Rattle.read.specs.Tables.{Filled, Right, Told, Roomy, Asked, AllAsked, itself};
+ghost use Rattle.read.specs.Tables.{Filled, Right, Told, Roomy, Ranked, Asked, AllAsked, itself};
+ghost use Rattle.read.specs.Readings.{isBase};
 ghost use Rattle.read.specs.Calls.{baseTestCall};
 ghost use Rattle.read.specs.Answers.{toldTest};
 ghost use Rattle.read.specs.Bases.{baseBit, baseEntry, baseStart, baseJoin};
@@ -94,6 +97,16 @@ pub fn bases(m: &[u64], rank: &[u64], table: &mut [u64])
         base_of(m, rank, table, i);
         i += 1;
     }
+}
+
+// The base test of one node of a circuit that has a rank: only what stands below it is asked for.
+pub fn is_base(m: &[u64], rank: &[u64], i: u64) -> bool
+    requires { ⌜ Ranked (now m) (now rank) × (i < used (now m)) ⌝ }
+    ensures { λ r. ⌜ r ≡ isBase (tree (now (m .entry)) i) ⌝ }
+{
+    let mut table = [0u64; 4096];
+    leaf_bases(m, &mut table);
+    base_of(m, rank, &mut table, i) == 1
 }
 
 // Yes where the value of node i needs no extension.

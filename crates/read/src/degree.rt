@@ -2,6 +2,7 @@
 use crate::answer::Degree;
 use crate::step::Step;
 use crate::step::UNKNOWN;
+use crate::step::operands_of;
 use crate::step::step_at;
 use circuit::check::check;
 use circuit::node::Expression;
@@ -26,7 +27,7 @@ ghost use Rattle.read.specs.Readings.{signed};
 ghost use Rattle.read.specs.Calls.{degreeCall, highestCall};
 ghost use Rattle.read.specs.Answers.{toldDegree};
 ghost use Rattle.read.specs.Rooted.{Rooted};
-ghost use Rattle.read.specs.Degrees.{overAt, Counted, Rows, top, degreeTo, degreeEntry, degreeStart, degreeJoin};
+ghost use Rattle.read.specs.Degrees.{overAt, Counted, Rows, Ordered, Joinable, top, degreeTo, degreeEntry, degreeStart, degreeJoin};
 
 // One higher than the least degree over the bound, 2,147,483,647: a higher one is not told apart from it.
 const TOP: u64 = 2147483649;
@@ -126,6 +127,40 @@ pub fn degrees(m: &[u64], rank: &[u64], table: &mut [u64])
     while i < n {
         degree_of(m, rank, table, i);
         i += 1;
+    }
+}
+
+// The degree of node i, from its operands'.
+fn degree_at(m: &[u64], table: &[u64], i: u64) -> u64
+    requires { ⌜ Joinable (now m) (now table) i ⌝ }
+    ensures { λ r. ⌜ r ≡ degreeTo (now (m .entry)) i ⌝ }
+{
+    let e = expression_at(m, i);
+    let s = operands_of(e);
+    match s {
+        Step::Stay => leaf_degree(e),
+        Step::Two(o, l, r) => {
+            let left = l as usize;
+            let right = r as usize;
+            degree_over(o, table[left], table[right])
+        }
+    }
+}
+
+// The same of each node in one pass up the order, for lowering, which asks again after each substitution. The rank is not read: it says why the order serves.
+pub fn degrees_along(m: &[u64], order: &[u64], rank: &[u64], table: &mut [u64])
+    requires { ⌜ Ordered (now m) (now order) (now rank) (now table) ⌝ }
+    ensures { λ r. ⌜ Filled (used (now (m .entry))) (at (now (table .exit))) (degreeTo (now (m .entry))) ⌝ }
+{
+    let n = m[1];
+    let mut q: u64 = 0;
+    while q < n {
+        let place = q as usize;
+        let i = order[place];
+        let d = degree_at(m, table, i);
+        let node = i as usize;
+        table[node] = d;
+        q += 1;
     }
 }
 

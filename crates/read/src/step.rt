@@ -17,7 +17,8 @@ pub enum Step {
     Two(Op, u64, u64),
 }
 
-fn operands_of(e: Expression) -> Step
+// An operation's two operands.
+pub fn operands_of(e: Expression) -> Step
     ensures { λ r. ⌜ r ≡ operandsOf e ⌝ }
 {
     match e {

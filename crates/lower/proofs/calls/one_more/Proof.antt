@@ -19,7 +19,7 @@ add-aux-column : tie.Need-add-aux-column
 add-aux-column c = search needs
 
 substitute-requires : tie.Need-substitute-requires
-substitute-requires c κs = can-substitute _ _ _ _ (c .before .before .before .before .before .before .before .before .before .before .before .before .before .before .args .progress) (c .before .before .before .before .before .before .before .before .before .before .before .before .before .before .pre) _ (c .before .before .before .before .before .before .before .next-choice .ensures) _ (c .before .before .before .before .before .next .given .1)
+substitute-requires c κs = can-substitute _ _ _ _ (c .before .before .before .before .before .before .before .before .before .before .before .before .before .before .args .progress) (c .before .before .before .before .before .before .before .before .before .before .before .before .before .before .pre) _ (c .before .before .before .before .before .before .before .next-choice .ensures) _ _ (c .before .before .before .before .before .next .given .1)
 
 add-constraint-requires : tie.Need-add-constraint-requires
 add-constraint-requires c κs = search needs
@@ -46,7 +46,7 @@ same-length-6 : tie.Need-same-length-6
 same-length-6 c = search needs
 
 returns-2 : tie.Need-returns-2
-returns-2 c = goes-on _ _ _ _ _ (c .before .before .before .before .before .before .before .before .before .before .before .before .before .before .before .before .before .before .before .before .before .before .before .before .before .before .pre) _ (c .before .before .before .before .before .before .before .before .before .before .before .before .before .before .before .before .before .before .before .next-choice .ensures) _ (c .before .before .before .before .before .before .before .before .before .before .before .before .before .before .before .before .before .next .given .1) _ _ _ (c .before .before .before .before .before .before .before .before .before .before .before .substitute .ensures) _ _ _ (c .before .before .before .before .add-constraint .ensures)
+returns-2 c = goes-on _ _ _ _ _ (c .before .before .before .before .before .before .before .before .before .before .before .before .before .before .before .before .before .before .before .before .before .before .before .before .before .before .pre) _ (c .before .before .before .before .before .before .before .before .before .before .before .before .before .before .before .before .before .before .before .next-choice .ensures) _ _ (c .before .before .before .before .before .before .before .before .before .before .before .before .before .before .before .before .before .next .given .1) _ _ _ (c .before .before .before .before .before .before .before .before .before .before .before .substitute .ensures) _ _ _ (c .before .before .before .before .add-constraint .ensures)
 
 pub one-more-spec : {M : Type 1} → statement M
 one-more-spec =

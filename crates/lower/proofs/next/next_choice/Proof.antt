@@ -1,7 +1,8 @@
 use borrow.Author.Needs.{needs}
 use borrow.Author.Tests.{not-true, not-false}
+use native.Mathlib.Omega.{arith}
 use Rattle.circuit.proofs.Valid.{valid-length}
-use Rattle.lower.proofs.Surveys.{next-done, next-node}
+use Rattle.lower.proofs.Surveys.{picked-done, ranked, picked-node}
 use Rattle.lower.proofs.next.next_choice.Statement.{statement}
 use Rattle.lower.proofs.next.next_choice.Tie as tie
 
@@ -27,7 +28,7 @@ too-high-requires : tie.Need-too-high-requires
 too-high-requires c κs = search needs
 
 returns : tie.Need-returns
-returns c = next-done _ _ _ _ _ _ _ (c .before .before .before .before .before .before .before .before .before .before .before .before .before .before .pre) (c .before .before .before .before .before .before .before .survey .ensures) _ (c .before .too-high .ensures) (not-true _ (c .if1 .taken))
+returns c = picked-done _ _ _ _ _ _ _ (c .before .before .before .before .before .before .before .before .before .before .before .before .before .before .pre) (c .before .before .before .before .before .before .before .survey .ensures) _ (c .before .too-high .ensures) (not-true _ (c .if1 .taken))
 
 slice-aggregate-occurrences : tie.Need-slice-aggregate-occurrences
 slice-aggregate-occurrences c = search needs
@@ -62,8 +63,17 @@ shared-slice-read-best-candidate c = valid-length _ (c .before .before .before .
 best-candidate-requires : tie.Need-best-candidate-requires
 best-candidate-requires c κs = search needs
 
+slice-aggregate-is-base : tie.Need-slice-aggregate-is-base
+slice-aggregate-is-base c = search needs
+
+slice-aggregate-is-base-2 : tie.Need-slice-aggregate-is-base-2
+slice-aggregate-is-base-2 c = search needs
+
+is-base-requires : tie.Need-is-base-requires
+is-base-requires c κs = (ranked _ _ _ _ _ _ _ (c .before .before .before .before .before .before .before .before .before .before .before .before .before .before .before .before .before .before .before .before .before .before .before .before .before .before .before .before .before .pre) (c .before .before .before .before .before .before .before .before .before .before .before .before .before .before .before .before .before .before .before .before .before .before .survey .ensures) _ (c .before .before .before .before .before .before .before .before .before .before .before .before .before .before .before .before .too-high .ensures), omega arith)
+
 returns-2 : tie.Need-returns-2
-returns-2 c = next-node _ _ _ _ _ _ _ (c .before .before .before .before .before .before .before .before .before .before .before .before .before .before .before .before .before .before .before .before .before .before .before .before .before .before .before .pre) (c .before .before .before .before .before .before .before .before .before .before .before .before .before .before .before .before .before .before .before .before .survey .ensures) _ (c .before .before .before .before .before .before .before .before .before .before .before .before .before .before .too-high .ensures) (not-false _ (c .before .before .before .before .before .before .before .before .before .before .before .before .before .if1 .left)) _ _ (c .before .before .before .before .before .before .occurrences .ensures) (c .best-candidate .ensures)
+returns-2 c = picked-node _ _ _ _ _ _ _ (c .before .before .before .before .before .before .before .before .before .before .before .before .before .before .before .before .before .before .before .before .before .before .before .before .before .before .before .before .before .before .before .pre) (c .before .before .before .before .before .before .before .before .before .before .before .before .before .before .before .before .before .before .before .before .before .before .before .before .survey .ensures) _ (c .before .before .before .before .before .before .before .before .before .before .before .before .before .before .before .before .before .before .too-high .ensures) (not-false _ (c .before .before .before .before .before .before .before .before .before .before .before .before .before .before .before .before .before .if1 .left)) _ _ (c .before .before .before .before .before .before .before .before .before .before .occurrences .ensures) (c .before .before .before .before .best-candidate .ensures) _ (c .before .is-base .ensures)
 
 pub next-choice-spec : {M : Type 1} → statement M
 next-choice-spec =
@@ -88,4 +98,7 @@ next-choice-spec =
     slice-aggregate-best-candidate-2
     shared-slice-read-best-candidate
     best-candidate-requires
+    slice-aggregate-is-base
+    slice-aggregate-is-base-2
+    is-base-requires
     returns-2)
