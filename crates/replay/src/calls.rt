@@ -1,229 +1,141 @@
 // The records of calls: a circuit begins, a frame or a sum is answered, and the answer is compared.
+use crate::tally::ANSWER;
 use crate::tally::CALLED;
 use crate::tally::CIRCUITS;
 use crate::tally::FRAMES;
+use crate::tally::ID;
 use crate::tally::LOWERINGS;
+use crate::tally::NUMBER;
 use crate::tally::ROWS;
+use crate::tally::STAGE;
 use crate::tally::SUBSTITUTIONS;
 use crate::tally::SUMS;
+use crate::tally::WRONG;
 use crate::tally::add;
 use crate::tally::compare;
-use crate::tally::compare_list;
+use crate::tally::flag;
 use crate::tally::get;
+use crate::tally::must;
+use crate::tally::part;
 use crate::tally::put;
+use crate::tally::turn;
 use crate::text::after;
+use crate::text::before;
 use crate::text::number;
-use crate::text::triple;
-use build_calls::calls;
+use build_calls::calls::sum;
 use building::Answer;
-use circuit::calls::Started;
-use circuit::calls::start;
-use circuit::node::Op;
-use circuit::node::Position;
-use circuit::node::RowKind;
-use lower::calls::lower;
-use lowering::Lowered;
+use frame::calls::frame;
 
-// The list behind its length.
-pub fn listed(list: &[u64]) -> &[u64] {
-    if list.len() == 0 {
-        return list;
-    }
-    let n = list[0] as usize;
-    if n < list.len() {
-        return &list[1..n + 1];
-    }
-    &list[..0]
+// A frame waits for its answer, or a sum does.
+const FRAME: u64 = 1;
+
+const SUM: u64 = 2;
+
+// The roots, which stand behind their number.
+pub fn listed(roots: &[u64]) -> &[u64] {
+    let n = std::num::wrapping_add_u64(get(roots, 0), 1);
+    part(roots, 1, n as usize)
 }
 
-// One more in a list behind its length.
-fn push(list: &mut [u64], v: u64) {
-    let n = std::num::wrapping_add_u64(get(list, 0), 1);
-    put(list, n as usize, v);
-    put(list, 0, n);
-}
-
-// A circuit begins: what was is forgotten.
-pub fn begin(t: &mut [u64], m: &mut [u64], roots: &mut [u64]) {
-    add(t, CIRCUITS, 1);
-    put(m, 0, 0);
-    put(m, 1, 0);
-    put(roots, 0, 0);
-}
-
-fn position(row: u64, column: u64) -> Position {
-    match row {
-        0 => Position::Main(column),
-        1 => Position::Aux(column),
-        2 => Position::NextMain(column),
-        _ => Position::NextAux(column),
-    }
-}
-
-// The building call of a frame, from its opcode on.
-fn built(m: &mut [u64], frame: &[u8]) -> Answer {
-    let a = number(frame, 2, 4);
-    let b = number(frame, 6, 4);
-    match number(frame, 0, 2) {
-        1 => calls::input(m, position(number(frame, 2, 2), number(frame, 4, 4))),
-        2 => calls::challenge(m, a),
-        3 => calls::base_constant(m, number(frame, 2, 16)),
-        4 => calls::extension_constant(m, triple(frame, 2)),
-        5 => calls::operation(m, Op::Add, a, b),
-        6 => calls::operation(m, Op::Multiply, a, b),
-        7 => calls::subtract(m, a, b),
-        _ => calls::negate(m, a),
-    }
-}
-
-// The number of an answer, then its id where it is accepted, behind their count.
-fn tell(answer: &mut [u64], said: Answer) {
-    put(answer, 0, 0);
-    match said {
-        Answer::Id(i) => {
-            push(answer, 0);
-            push(answer, i);
-        }
-        Answer::Refused(n) => push(answer, n),
-    }
-}
-
-fn row_kind(kind: u64) -> RowKind {
-    match kind {
-        1 => RowKind::Single,
-        _ => RowKind::Dual,
-    }
-}
-
-// An answer that says only its number.
-fn silent(answer: &mut [u64], n: u64) {
-    put(answer, 0, 1);
-    put(answer, 1, n);
-}
-
-fn started(m: &mut [u64], kind: u64) -> u64 {
-    let s = start(m, row_kind(kind));
-    match s {
-        Started::Fresh => 0,
-        Started::Refused(n) => n,
-    }
-}
-
-// Lowers the roots, which stand behind their number.
-fn lower_listed(
-    m: &mut [u64],
-    roots: &mut [u64],
-    counts: &[u8],
-    main: &mut [u64],
-    aux: &mut [u64],
-) -> Lowered {
-    let n = get(roots, 0) as usize;
-    if n < roots.len() {
-        return lower(
-            m,
-            &mut roots[1..n + 1],
-            number(counts, 0, 4),
-            number(counts, 4, 4),
-            number(counts, 8, 4),
-            main,
-            aux,
-        );
-    }
-    Lowered::Refused(0)
-}
-
-// Adds a list's first n words.
-fn push_all(list: &mut [u64], words: &[u64], n: u64) {
-    let mut k: u64 = 0;
-    while k < n {
-        push(list, get(words, k as usize));
+fn clear(list: &mut [u64]) {
+    let mut k: usize = 0;
+    while k < list.len() {
+        put(list, k, 0);
         k += 1;
     }
 }
 
-// An accepted lowering says both counts, then both lists.
-fn tell_counts(answer: &mut [u64], a: u64, b: u64) {
-    silent(answer, 0);
-    push(answer, a);
-    push(answer, b);
+// A circuit begins: what was is forgotten. Until it starts, its row kind is 0.
+pub fn begin(t: &mut [u64], m: &mut [u64], roots: &mut [u64], tables: &mut [u64]) {
+    turn(t, STAGE, 0, 0);
+    turn(t, CALLED, 0, 0);
+    add(t, CIRCUITS, 1);
+    put(m, 0, 0);
+    put(roots, 0, 0);
+    clear(tables);
 }
 
-fn tell_lists(answer: &mut [u64], a: u64, b: u64, main: &[u64], aux: &[u64]) {
-    tell_counts(answer, a, b);
-    push_all(answer, main, a);
-    push_all(answer, aux, b);
-}
-
-fn count_lowering(t: &mut [u64], a: u64, b: u64) {
+fn count_lowering(t: &mut [u64], answer: &[u8]) {
+    let main = number(answer, 2, 4);
+    let aux = number(answer, 6, 4);
     add(t, LOWERINGS, 1);
-    add(t, SUBSTITUTIONS, std::num::wrapping_add_u64(a, b));
+    add(t, SUBSTITUTIONS, std::num::wrapping_add_u64(main, aux));
 }
 
-// A lowering: target, main count, auxiliary count.
-fn lowered(t: &mut [u64], m: &mut [u64], roots: &mut [u64], answer: &mut [u64], counts: &[u8]) {
+// What a frame says of the circuit: 00 its rows, and 0a that it was lowered.
+fn note(t: &mut [u64], frame: &[u8], answer: &[u8]) {
+    match number(frame, 0, 2) {
+        0 => put(t, ROWS, number(frame, 2, 2)),
+        10 => count_lowering(t, answer),
+        _ => {}
+    }
+}
+
+// A frame is answered.
+pub fn call(t: &mut [u64], m: &mut [u64], roots: &mut [u64], answer: &mut [u8], line: &[u8]) {
     let mut main = [0u64; 512];
     let mut aux = [0u64; 512];
-    let r = lower_listed(m, roots, counts, &mut main, &mut aux);
-    match r {
-        Lowered::Counts(a, b) => {
-            count_lowering(t, a, b);
-            tell_lists(answer, a, b, &main, &aux);
-        }
-        Lowered::Refused(n) => silent(answer, n),
-    }
-}
-
-// A frame, and its answer: the number, then the numbers of two bytes that follow it, behind how many they are.
-pub fn call(t: &mut [u64], m: &mut [u64], roots: &mut [u64], answer: &mut [u64], line: &[u8]) {
+    let request = after(line, 1);
+    let n = frame(m, roots, &mut main, &mut aux, request, answer);
+    turn(t, CALLED, 0, FRAME);
+    put(t, ANSWER, n as u64);
+    note(t, request, answer);
     add(t, FRAMES, 1);
-    put(t, CALLED, 1);
-    let frame = after(line, 1);
-    let opcode = number(frame, 0, 2);
-    match opcode {
-        0 => {
-            let kind = number(frame, 2, 2);
-            put(t, ROWS, kind);
-            silent(answer, started(m, kind));
-        }
-        9 => {
-            push(roots, number(frame, 2, 4));
-            silent(answer, 0);
-        }
-        10 => lowered(t, m, roots, answer, after(frame, 2)),
-        _ => tell(answer, built(m, frame)),
-    }
 }
 
-// Reads so many ids of a text into a list behind its length.
+// Reads so many ids.
 fn read_ids(list: &mut [u64], text: &[u8], n: u64) {
-    put(list, 0, 0);
     let mut at: usize = 0;
     let mut k: u64 = 0;
     while k < n {
-        push(list, number(text, at, 4));
+        put(list, k as usize, number(text, at, 4));
         at = std::num::wrapping_add_usize(at, 4);
         k += 1;
     }
 }
 
-// A sum, and its answer.
-pub fn sum(t: &mut [u64], m: &mut [u64], answer: &mut [u64], line: &[u8]) {
-    add(t, SUMS, 1);
-    put(t, CALLED, 1);
+fn keep_sum(t: &mut [u64], said: Answer) {
+    match said {
+        Answer::Id(i) => {
+            put(t, NUMBER, 0);
+            put(t, ID, i);
+        }
+        Answer::Refused(n) => put(t, NUMBER, n),
+    }
+}
+
+// A sum is answered.
+pub fn summed(t: &mut [u64], m: &mut [u64], line: &[u8]) {
     let mut ids = [0u64; 256];
-    read_ids(&mut ids, after(line, 3), number(line, 1, 2));
-    tell(answer, calls::sum(m, listed(&ids)));
+    let n = number(line, 1, 2);
+    read_ids(&mut ids, after(line, 3), n);
+    keep_sum(t, sum(m, part(&ids, 0, n as usize)));
+    turn(t, CALLED, 0, SUM);
+    add(t, SUMS, 1);
+}
+
+fn compare_sum(t: &mut [u64], line: &[u8]) {
+    let refusal = get(t, NUMBER);
+    let i = get(t, ID);
+    compare(t, refusal, number(line, 1, 2));
+    compare(t, i, number(line, 3, 4));
+    must(t, line.len() == 7);
+}
+
+// A frame's answer is the same text, and a line feed.
+fn compare_answer(t: &mut [u64], answer: &[u8], line: &[u8]) {
+    let n = get(t, ANSWER);
+    let text = before(answer, std::num::wrapping_sub_u64(n, 1) as usize);
+    compare(t, flag(check::same(text, after(line, 1))), 1);
 }
 
 // The answer to the call before it.
-pub fn answered(t: &mut [u64], answer: &[u64], line: &[u8]) {
+pub fn answered(t: &mut [u64], answer: &[u8], line: &[u8]) {
     let called = get(t, CALLED);
-    compare(t, called, 1);
     put(t, CALLED, 0);
-    compare(t, get(answer, 1), number(line, 1, 2));
-    let values = listed(answer);
-    if values.len() == 0 {
-        return;
+    match called {
+        FRAME => compare_answer(t, answer, line),
+        SUM => compare_sum(t, line),
+        _ => put(t, WRONG, 1),
     }
-    compare_list(t, &values[1..], after(line, 3), 4);
 }

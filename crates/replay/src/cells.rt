@@ -1,5 +1,6 @@
 // The tables that a circuit is evaluated on, in one list of lent words: 256 main columns and the same of the next row, 256 auxiliary columns and the
 // same of the next row, and 256 challenges. A main column is a word, the others are three.
+use crate::tally::must;
 use crate::tally::put;
 use crate::text::after;
 use crate::text::number;
@@ -27,8 +28,10 @@ fn put_triple(tables: &mut [u64], at: usize, text: &[u8])
 }
 
 // A cell: its kind, its column or number, its value.
-pub fn cell(tables: &mut [u64], line: &[u8]) {
-    let i = (number(line, 3, 4) % 256) as usize;
+pub fn cell(t: &mut [u64], tables: &mut [u64], line: &[u8]) {
+    let index = number(line, 3, 4);
+    must(t, index < 256);
+    let i = (index % 256) as usize;
     let value = after(line, 7);
     match number(line, 1, 2) {
         2 => put_triple(tables, CHALLENGES + 3 * i, value),

@@ -1,21 +1,25 @@
 // The records of a dump besides its nodes: what is read of the whole circuit and of its roots, compared.
 use crate::calls::listed;
 use crate::nodes::compare_degree;
-use crate::nodes::flag;
+use crate::tally::COUNTED;
 use crate::tally::DUMPS;
 use crate::tally::LEAST;
 use crate::tally::NODE;
 use crate::tally::PLACE;
 use crate::tally::REGISTERED;
 use crate::tally::SAID;
+use crate::tally::STAGE;
 use crate::tally::VALUED;
 use crate::tally::WRONG;
 use crate::tally::add;
 use crate::tally::compare;
 use crate::tally::compare_list;
+use crate::tally::flag;
 use crate::tally::get;
+use crate::tally::must;
 use crate::tally::part;
 use crate::tally::put;
+use crate::tally::turn;
 use crate::text::after;
 use crate::text::byte_at;
 use crate::text::number;
@@ -41,6 +45,7 @@ fn forget(t: &mut [u64]) {
     put(t, NODE, 0);
     put(t, REGISTERED, 0);
     put(t, LEAST, 0);
+    put(t, PLACE, 0);
 }
 
 // What a dump says of itself: how many are registered, and whether nodes have values.
@@ -51,13 +56,14 @@ fn keep(t: &mut [u64], line: &[u8]) {
 
 // A dump begins: the used count, and the number of roots.
 pub fn head(t: &mut [u64], m: &[u64], roots: &[u64], line: &[u8]) {
+    add(t, DUMPS, 1);
     forget(t);
     keep(t, line);
     compare_head(t, m, roots, line);
 }
 
 fn compare_head(t: &mut [u64], m: &[u64], roots: &[u64], line: &[u8]) {
-    add(t, DUMPS, 1);
+    turn(t, STAGE, 0, 1);
     compare_count(t, calls::used(m), number(line, 1, 4));
     compare(t, listed(roots).len() as u64, number(line, 9, 2));
 }
@@ -87,7 +93,7 @@ fn compare_whole(t: &mut [u64], m: &[u64]) {
 
 // The root list in its order.
 pub fn roots_of(t: &mut [u64], m: &[u64], roots: &[u64], line: &[u8]) {
-    put(t, PLACE, 0);
+    turn(t, STAGE, 1, 2);
     compare_whole(t, m);
     compare_list(t, listed(roots), after(line, 1), 4);
 }
@@ -103,18 +109,17 @@ fn walk_sum(ids: &[u64]) -> u64 {
     sum
 }
 
-// The root at the place that a record names, which comes in the list's order.
-fn root_at(t: &mut [u64], roots: &[u64], line: &[u8]) -> u64 {
+// The root at the place that a record of this stage names, which comes in the list's order.
+fn root_at(t: &mut [u64], stage: u64, roots: &[u64], line: &[u8]) -> u64 {
+    turn(t, STAGE, stage, stage);
     let place = number(line, 1, 2);
-    let next = get(t, PLACE);
-    compare(t, next, place);
-    add(t, PLACE, 1);
+    turn(t, PLACE, place, std::num::wrapping_add_u64(place, 1));
     get(listed(roots), place as usize)
 }
 
 // The walk of a root, written out or as its length and sum.
 pub fn walked(t: &mut [u64], m: &[u64], roots: &[u64], list: &mut [u64], line: &[u8]) {
-    let root = [root_at(t, roots, line)];
+    let root = [root_at(t, 4, roots, line)];
     let mut stack = [0u64; 512];
     let r = walk(m, &root, list, &mut stack);
     match r {
@@ -134,9 +139,9 @@ pub fn walked(t: &mut [u64], m: &[u64], roots: &[u64], list: &mut [u64], line: &
 
 // Reference counts are accepted, or refused by this number. All walks have come.
 pub fn counted(t: &mut [u64], m: &mut [u64], roots: &[u64], line: &[u8]) {
-    let places = get(t, PLACE);
-    compare(t, places, listed(roots).len() as u64);
-    put(t, PLACE, 0);
+    turn(t, STAGE, 4, 5);
+    turn(t, PLACE, listed(roots).len() as u64, 0);
+    put(t, COUNTED, 0);
     let r = count_references(m, listed(roots));
     match r {
         paths::Counted::Written => compare(t, 0, number(line, 1, 2)),
@@ -151,21 +156,37 @@ fn compare_references(t: &mut [u64], r: NodeRead, want: u64) {
     }
 }
 
-// Ids and their reference counts.
-pub fn pairs(t: &mut [u64], m: &[u64], line: &[u8]) {
-    let text = after(line, 1);
+// Ids rise.
+fn rise(t: &mut [u64], i: u64) {
+    let least = get(t, COUNTED);
+    must(t, least <= i);
+    put(t, COUNTED, std::num::wrapping_add_u64(i, 1));
+}
+
+fn compare_pair(t: &mut [u64], m: &[u64], pair: &[u8]) {
+    let i = number(pair, 0, 4);
+    rise(t, i);
+    compare_references(t, calls::read(m, i), number(pair, 4, 8));
+}
+
+fn compare_pairs(t: &mut [u64], m: &[u64], text: &[u8]) {
     let mut at: usize = 0;
     while text.len() - at >= 12 {
-        let pair = after(text, at);
-        compare_references(t, calls::read(m, number(pair, 0, 4)), number(pair, 4, 8));
+        compare_pair(t, m, after(text, at));
         at += 12;
     }
-    compare(t, at as u64, text.len() as u64);
+    must(t, at == text.len());
+}
+
+// Ids and their reference counts.
+pub fn pairs(t: &mut [u64], m: &[u64], line: &[u8]) {
+    turn(t, STAGE, 5, 5);
+    compare_pairs(t, m, after(line, 1));
 }
 
 // The sorted distinct counts below a root.
 pub fn distinct(t: &mut [u64], m: &[u64], roots: &[u64], line: &[u8]) {
-    let root = root_at(t, roots, line);
+    let root = root_at(t, 5, roots, line);
     let mut list = [0u64; 512];
     let r = distinct_counts(m, root, &mut list);
     match r {
@@ -179,10 +200,22 @@ pub fn distinct(t: &mut [u64], m: &[u64], roots: &[u64], line: &[u8]) {
 
 // The highest degree of the roots, and one more.
 pub fn highest_of(t: &mut [u64], m: &[u64], roots: &[u64], line: &[u8]) {
+    turn(t, STAGE, 2, 3);
     compare_degree(t, highest(m, listed(roots)), number(line, 1, 8));
 }
 
 // The visible nodes of the roots.
 pub fn visible_of(t: &mut [u64], m: &[u64], roots: &[u64], line: &[u8]) {
+    turn(t, STAGE, 3, 4);
     compare_count(t, visible(m, listed(roots)), number(line, 1, 4));
+}
+
+// A dump ends: where counts were accepted, each root's distinct ones have come.
+pub fn end(t: &mut [u64], roots: &[u64]) {
+    turn(t, STAGE, 5, 0);
+    if get(t, COUNTED) != 0 {
+        turn(t, PLACE, listed(roots).len() as u64, 0);
+    } else {
+        turn(t, PLACE, 0, 0);
+    }
 }

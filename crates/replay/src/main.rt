@@ -67,7 +67,7 @@ fn file(name: &[u8], totals: &mut [u64]) {
     let mut t = [0u64; TALLY];
     let mut m = [0u64; WORDS];
     let mut roots = [0u64; 65];
-    let mut answer = [0u64; 1028];
+    let mut answer = [0u8; 4107];
     let mut tables = [0u64; TABLES];
     let mut list = [0u64; LIST];
     let fd = os::open_read(name);

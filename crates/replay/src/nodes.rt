@@ -11,13 +11,17 @@ use crate::tally::NODE;
 use crate::tally::NODES;
 use crate::tally::REGISTERED;
 use crate::tally::ROWS;
+use crate::tally::STAGE;
 use crate::tally::VALUED;
 use crate::tally::WRONG;
 use crate::tally::add;
 use crate::tally::compare;
+use crate::tally::flag;
 use crate::tally::get;
+use crate::tally::must;
 use crate::tally::part;
 use crate::tally::put;
+use crate::tally::turn;
 use crate::text::after;
 use crate::text::code_at;
 use crate::text::number;
@@ -142,11 +146,6 @@ pub fn compare_degree(t: &mut [u64], d: Degree, want: u64) {
     }
 }
 
-// Yes is written as 1 and no as 0.
-pub fn flag(yes: bool) -> u64 {
-    if yes { 1 } else { 0 }
-}
-
 fn compare_test(t: &mut [u64], r: Test, want: u64) {
     match r {
         Test::Answer(yes) => compare(t, flag(yes), want),
@@ -178,9 +177,9 @@ fn class_place(i: u64) -> usize {
 fn compare_class(t: &mut [u64], m: &[u64], i: u64, class: u64) {
     put(t, class_place(i), class);
     add(t, LEAST, flag(class == i));
-    compare(t, flag(class <= i), 1);
+    must(t, class <= i);
     let own = get(t, class_place(class));
-    compare(t, own, class);
+    must(t, own == class);
     let r = equal(m, i, class);
     match r {
         Equal::Answer(yes) => compare(t, flag(yes), 1),
@@ -193,8 +192,10 @@ fn compare_value(t: &mut [u64], v: Value, base: u64, text: &[u8]) {
     match v {
         Value::Found(x) => {
             if base == 1 {
+                must(t, text.len() == 16);
                 compare_triple(t, x, lift(number(text, 0, 16)));
             } else {
+                must(t, text.len() == 48);
                 compare_triple(t, x, triple(text, 0));
             }
         }
@@ -225,9 +226,8 @@ fn value_of(m: &[u64], i: u64, rows: u64, tables: &[u64]) -> Value {
 
 // One node more, whose id this is.
 fn count_node(t: &mut [u64], i: u64) {
-    let next = get(t, NODE);
-    compare(t, next, i);
-    add(t, NODE, 1);
+    turn(t, STAGE, 1, 1);
+    turn(t, NODE, i, std::num::wrapping_add_u64(i, 1));
     add(t, NODES, 1);
 }
 
@@ -238,6 +238,8 @@ fn compare_readings(t: &mut [u64], m: &[u64], i: u64, tables: &[u64], text: &[u8
     if get(t, VALUED) == 1 {
         let v = value_of(m, i, get(t, ROWS), tables);
         compare_value(t, v, number(text, 8, 1), after(text, 16));
+    } else {
+        must(t, text.len() == 16);
     }
 }
 

@@ -23,7 +23,7 @@ fn of_dump(t: &mut [u64], m: &mut [u64], roots: &[u64], list: &mut [u64], line: 
         b'k' => dumps::counted(t, m, roots, line),
         b'q' => dumps::pairs(t, m, line),
         b'u' => dumps::distinct(t, m, roots, line),
-        b'e' => {}
+        b'e' => dumps::end(t, roots),
         _ => put(t, WRONG, 1),
     }
 }
@@ -33,18 +33,18 @@ fn replayed(
     t: &mut [u64],
     m: &mut [u64],
     roots: &mut [u64],
-    answer: &mut [u64],
+    answer: &mut [u8],
     tables: &mut [u64],
     list: &mut [u64],
     line: &[u8],
 ) {
     match byte_at(line, 0) {
         b'#' => {}
-        b'c' => calls::begin(t, m, roots),
+        b'c' => calls::begin(t, m, roots, tables),
         b'>' => calls::call(t, m, roots, answer, line),
-        b's' => calls::sum(t, m, answer, line),
+        b's' => calls::summed(t, m, line),
         b'<' => calls::answered(t, answer, line),
-        b't' => cell(tables, line),
+        b't' => cell(t, tables, line),
         b'n' => node(t, m, tables, line),
         b'.' => compare_totals(t, line),
         _ => of_dump(t, m, roots, list, line),
@@ -66,7 +66,7 @@ pub fn record(
     t: &mut [u64],
     m: &mut [u64],
     roots: &mut [u64],
-    answer: &mut [u64],
+    answer: &mut [u8],
     tables: &mut [u64],
     list: &mut [u64],
     line: &[u8],

@@ -30,7 +30,7 @@ pub const WRONG: usize = 9;
 // The line at hand, from 1.
 pub const LINE: usize = 10;
 
-// 1 from a call to its answer.
+// From a call to its answer, which kind of call.
 pub const CALLED: usize = 11;
 
 // 1 or 2.
@@ -50,14 +50,27 @@ pub const VALUED: usize = 17;
 
 pub const PLACE: usize = 18;
 
+// Where in a dump the records are: 0 outside, 1 at its nodes, 2 after the roots, 3 after their degree, 4 at their walks, 5 at their reference counts.
+pub const STAGE: usize = 19;
+
+// One more than the last id whose reference count came.
+pub const COUNTED: usize = 20;
+
 // 1 once the last record has come.
-pub const ENDED: usize = 19;
+pub const ENDED: usize = 21;
+
+// How long the answer to a frame is; the number and the id of the answer to a sum.
+pub const ANSWER: usize = 22;
+
+pub const NUMBER: usize = 23;
+
+pub const ID: usize = 24;
 
 // From here on, of the dump at hand, each node's class.
-pub const CLASSES: usize = 20;
+pub const CLASSES: usize = 25;
 
 // Room for the classes of 512 nodes.
-pub const TALLY: usize = 532;
+pub const TALLY: usize = 537;
 
 // Word i, 0 beyond the end.
 pub fn get(s: &[u64], i: usize) -> u64 {
@@ -96,6 +109,25 @@ pub fn compare(t: &mut [u64], got: u64, want: u64) {
     }
 }
 
+// Yes is 1 and no 0.
+pub fn flag(yes: bool) -> u64 {
+    if yes { 1 } else { 0 }
+}
+
+// What has to hold of the records themselves.
+pub fn must(t: &mut [u64], holds: bool) {
+    if !holds {
+        put(t, WRONG, 1);
+    }
+}
+
+// A count that has to be one number, and is then another.
+pub fn turn(t: &mut [u64], i: usize, from: u64, to: u64) {
+    let was = get(t, i);
+    must(t, was == from);
+    put(t, i, to);
+}
+
 // Compares words with the numbers of so many digits that are all of a text.
 pub fn compare_list(t: &mut [u64], words: &[u64], text: &[u8], digits: usize) {
     let mut at: usize = 0;
@@ -118,7 +150,7 @@ pub fn compare_totals(t: &mut [u64], line: &[u8]) {
         at = std::num::wrapping_add_usize(at, 8);
         k += 1;
     }
-    put(t, ENDED, 1);
+    turn(t, ENDED, 0, 1);
 }
 
 // Adds one file's counts to the totals of all.

@@ -24,6 +24,14 @@ pub fn after(s: &[u8], n: usize) -> &[u8] {
     &s[..0]
 }
 
+// The first n characters.
+pub fn before(s: &[u8], n: usize) -> &[u8] {
+    if n <= s.len() {
+        return &s[0..n];
+    }
+    &s[..0]
+}
+
 // The value of a lower-case hexadecimal digit.
 fn digit(c: u8) -> u64
     ensures { λ r. ⌜ r < 16 ⌝ }

@@ -12,17 +12,14 @@ Inv-loop list₀ text n at₀ k₀ list at k = (k ≤ n) × (length list ≡ len
 abbrev μ-loop : tie.MeasureT-loop
 μ-loop list₀ text n at₀ k₀ list at k = n - k
 
-put-requires : tie.Need-put-requires Inv-loop μ-loop
-put-requires c κs = search needs
-
 loop-holds : tie.Need-loop-holds Inv-loop μ-loop
 loop-holds c = search needs
 
 number-requires : tie.Need-number-requires Inv-loop μ-loop
 number-requires c κs = search needs
 
-push-requires : tie.Need-push-requires Inv-loop μ-loop
-push-requires c κs = search needs
+put-requires : tie.Need-put-requires Inv-loop μ-loop
+put-requires c κs = search needs
 
 wrapping-add-usize-requires : tie.Need-wrapping-add-usize-requires Inv-loop μ-loop
 wrapping-add-usize-requires c κs = search needs
@@ -48,10 +45,9 @@ read-ids-spec =
     (tie.spec
     Inv-loop
     μ-loop
-    put-requires
     loop-holds
     number-requires
-    push-requires
+    put-requires
     wrapping-add-usize-requires
     add-k
     loop-less

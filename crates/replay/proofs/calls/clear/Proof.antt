@@ -3,23 +3,20 @@ use mathlib.Core.Path.{_≡_}
 use lib.ListN.{length}
 use native.Mathlib.Omega.{arith}
 use borrow.Author.Needs.{needs}
-use Rattle.replay.proofs.calls.push_all.Statement.{statement}
-use Rattle.replay.proofs.calls.push_all.Tie as tie
+use Rattle.replay.proofs.calls.clear.Statement.{statement}
+use Rattle.replay.proofs.calls.clear.Tie as tie
 
 abbrev Inv-loop : tie.InvT-loop
-Inv-loop list₀ words n k₀ list k = (k ≤ n) × (length list ≡ length list₀)
+Inv-loop list₀ k₀ list k = (k ≤ length list) × (length list ≡ length list₀)
 
 abbrev μ-loop : tie.MeasureT-loop
-μ-loop list₀ words n k₀ list k = n - k
+μ-loop list₀ k₀ list k = length list - k
 
 loop-holds : tie.Need-loop-holds Inv-loop μ-loop
 loop-holds c = search needs
 
-get-requires : tie.Need-get-requires Inv-loop μ-loop
-get-requires c κs = search needs
-
-push-requires : tie.Need-push-requires Inv-loop μ-loop
-push-requires c κs = search needs
+put-requires : tie.Need-put-requires Inv-loop μ-loop
+put-requires c κs = search needs
 
 add-k : tie.Need-add-k Inv-loop μ-loop
 add-k c = search needs
@@ -36,15 +33,14 @@ same-length c = omega arith
 returns : tie.Need-returns Inv-loop μ-loop
 returns c = search needs
 
-pub push-all-spec : {M : Type 1} → statement M
-push-all-spec =
+pub clear-spec : {M : Type 1} → statement M
+clear-spec =
     tie.close
     (tie.spec
     Inv-loop
     μ-loop
     loop-holds
-    get-requires
-    push-requires
+    put-requires
     add-k
     loop-less
     loop-again

@@ -1,0 +1,66 @@
+use mathlib.Core.Path.{sym}
+use native.Mathlib.Omega.{arith}
+use lib.Seq.{length-take-le}
+use borrow.Author.Needs.{needs}
+use Rattle.frames.proofs.finish.Statement.{statement}
+use Rattle.frames.proofs.finish.Tie as tie
+
+-- src/main.rt:60:9
+returns : tie.Need-returns
+returns c = search needs
+
+-- src/main.rt:62:9
+answer-line-requires : tie.Need-answer-line-requires
+answer-line-requires c κs = search needs
+
+-- src/main.rt:63:34
+slice-reshare-prefix-write-all : tie.Need-slice-reshare-prefix-write-all
+slice-reshare-prefix-write-all c = search needs
+
+-- src/main.rt:63:34
+slice-aggregate-write-all : tie.Need-slice-aggregate-write-all
+slice-aggregate-write-all c = sym (length-take-le _ _ (omega (arith, c .before .before .before .before .before .before .before .before .before .before .before .answer-line .ensures .fits, c .before .before .before .before .before .before .before .before .before .before .before .answer-line .kept .1 .1 .1 .1 .1 .0)))
+
+-- src/main.rt:63:5
+write-all-requires : tie.Need-write-all-requires
+write-all-requires c κs = search needs
+
+-- src/main.rt:49:1
+same-length : tie.Need-same-length
+same-length c = search needs
+
+-- src/main.rt:49:1
+same-length-2 : tie.Need-same-length-2
+same-length-2 c = search needs
+
+-- src/main.rt:49:1
+same-length-3 : tie.Need-same-length-3
+same-length-3 c = search needs
+
+-- src/main.rt:49:1
+same-length-4 : tie.Need-same-length-4
+same-length-4 c = search needs
+
+-- src/main.rt:49:1
+same-length-5 : tie.Need-same-length-5
+same-length-5 c = search needs
+
+-- src/main.rt:49:1
+returns-2 : tie.Need-returns-2
+returns-2 c = search needs
+
+pub finish-spec : {M : Type 1} → statement M
+finish-spec =
+    tie.close
+    (tie.spec
+    returns
+    answer-line-requires
+    slice-reshare-prefix-write-all
+    slice-aggregate-write-all
+    write-all-requires
+    same-length
+    same-length-2
+    same-length-3
+    same-length-4
+    same-length-5
+    returns-2)

@@ -1,0 +1,99 @@
+// Document 01's frame program: answers the frames on standard input, a line for each line, as soon as they have been read. Its memory is constant.
+use libc::STDIN_FILENO;
+use libc::STDOUT_FILENO;
+use stream::feed::MOST_CHARACTERS;
+use stream::feed::answer_line;
+use stream::feed::feed;
+ghost use Prim.Native.Nat.{_≤_};
+ghost use lib.ListN.{length, take};
+ghost use Rattle.frame.specs.States.{lent};
+ghost use Rattle.stream.specs.Stream.{stream, room, Roomy, Poured};
+
+// 512 nodes; the number of roots and 64 roots; 512 places in each lowering list.
+const WORDS: usize = 3074;
+
+const ROOTS: usize = 65;
+
+const LIST: usize = 512;
+
+const PART: usize = 65536;
+
+// Feeds a part of the input, and writes the answers whenever there is no room for one more. How many characters are kept of a line that has not ended.
+fn pour(
+    m: &mut [u64],
+    roots: &mut [u64],
+    main: &mut [u64],
+    aux: &mut [u64],
+    line: &mut [u8],
+    kept: usize,
+    part: &[u8],
+    out: &mut [u8],
+) -> usize
+    requires { ⌜ Roomy (now line) kept (now main) (now aux) (now out) 0 ⌝ }
+    ensures { λ r. ⌜ Poured (stream (lent (now (m .entry)) (now (roots .entry)) (now (main .entry)) (now (aux .entry))) (take kept (now (line .entry)))) (now (part .entry)) (lent (now (m .exit)) (now (roots .exit)) (now (main .exit)) (now (aux .exit))) (now (line .exit)) r ⌝ }
+{
+    let mut count = kept;
+    let mut from: usize = 0;
+    while from < part.len() {
+        let fed = feed(m, roots, main, aux, line, count, &part[from..], out);
+        let written = fed.written;
+        io::write_all(STDOUT_FILENO, &out[..written]);
+        count = fed.kept;
+        from += fed.taken;
+    }
+    count
+}
+
+// What follows the last line feed is a line if it isn't empty.
+fn finish(
+    m: &mut [u64],
+    roots: &mut [u64],
+    main: &mut [u64],
+    aux: &mut [u64],
+    line: &[u8],
+    out: &mut [u8],
+)
+    requires { ⌜ room (now main) (now aux) ≤ length (now out) ⌝ }
+{
+    if line.len() == 0 {
+        return;
+    }
+    let n = answer_line(m, roots, main, aux, line, out, 0);
+    io::write_all(STDOUT_FILENO, &out[..n]);
+}
+
+fn main() {
+    let mut m = [0u64; WORDS];
+    let mut roots = [0u64; ROOTS];
+    let mut main = [0u64; LIST];
+    let mut aux = [0u64; LIST];
+    let mut line = [0u8; MOST_CHARACTERS];
+    let mut part = [0u8; PART];
+    let mut out = [0u8; PART];
+    let mut kept: usize = 0;
+    // A proved loop has to end, and nothing says that the input does: no input takes so many turns.
+    let mut turns = u64::MAX;
+    while turns > 0 {
+        let got = libc::read(STDIN_FILENO, &mut part);
+        let n = io::count(got, &part);
+        turns = if n == 0 { 0 } else { turns - 1 };
+        kept = pour(
+            &mut m,
+            &mut roots,
+            &mut main,
+            &mut aux,
+            &mut line,
+            kept,
+            &part[..n],
+            &mut out,
+        );
+    }
+    finish(
+        &mut m,
+        &mut roots,
+        &mut main,
+        &mut aux,
+        &line[..kept],
+        &mut out,
+    );
+}

@@ -1,0 +1,66 @@
+use native.Mathlib.Omega.{arith}
+use mathlib.Core.Path.{refl}
+use Rattle.stream.proofs.Feeding.{few-written, line-answered}
+use borrow.Author.Needs.{needs}
+use Rattle.stream.proofs.feed.answer_line.Statement.{statement}
+use Rattle.stream.proofs.feed.answer_line.Tie as tie
+
+-- src/feed.rt:47:43
+sub-frame : tie.Need-sub-frame
+sub-frame c = search needs
+
+-- src/feed.rt:47:43
+part-frame-start : tie.Need-part-frame-start
+part-frame-start c = search needs
+
+-- src/feed.rt:47:43
+part-frame-end : tie.Need-part-frame-end
+part-frame-end c = search needs
+
+-- src/feed.rt:47:10
+frame-requires : tie.Need-frame-requires
+frame-requires c κs = search needs
+
+-- src/feed.rt:47:5
+add-result : tie.Need-add-result
+add-result c = omega (arith, few-written _ _ _ _ _ _ (c .before .before .before .before .before .before .before .before .before .before .frame .ensures) (c .before .before .before .before .before .before .before .before .before .before .frame .kept .1 .1 .0) (c .before .before .before .before .before .before .before .before .before .before .frame .kept .1 .1 .1 .0), c .before .before .before .before .before .before .before .before .before .before .before .before .before .before .before .before .before .before .before .before .before .before .pre, c .before .before .before .before .before .before .before .before .before .before .before .before .before .before .before .before .before .before .before .before .before .before .good)
+
+-- src/feed.rt:35:1
+same-length : tie.Need-same-length
+same-length c = search needs
+
+-- src/feed.rt:35:1
+same-length-2 : tie.Need-same-length-2
+same-length-2 c = search needs
+
+-- src/feed.rt:35:1
+same-length-3 : tie.Need-same-length-3
+same-length-3 c = search needs
+
+-- src/feed.rt:35:1
+same-length-4 : tie.Need-same-length-4
+same-length-4 c = search needs
+
+-- src/feed.rt:35:1
+same-length-5 : tie.Need-same-length-5
+same-length-5 c = search needs
+
+-- src/feed.rt:35:1
+returns : tie.Need-returns
+returns c = line-answered _ _ _ _ _ _ (c .before .before .before .before .before .before .before .before .before .before .frame .ensures) (c .before .before .before .before .before .before .before .before .before .before .frame .kept .1 .1 .0) (c .before .before .before .before .before .before .before .before .before .before .frame .kept .1 .1 .1 .0) _ _ refl (c .before .before .before .before .before .before .before .before .before .before .before .before .before .before .before .before .before .before .before .before .before .before .pre)
+
+pub answer-line-spec : {M : Type 1} → statement M
+answer-line-spec =
+    tie.close
+    (tie.spec
+    sub-frame
+    part-frame-start
+    part-frame-end
+    frame-requires
+    add-result
+    same-length
+    same-length-2
+    same-length-3
+    same-length-4
+    same-length-5
+    returns)

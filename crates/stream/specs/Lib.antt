@@ -1,0 +1,2 @@
+-- The frame program on its input.
+pub mod Stream
