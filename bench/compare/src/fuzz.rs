@@ -1,0 +1,401 @@
+//! Damages random words of grown circuits and of other lent slices, calls, and checks what every call owes: that it returns, with a number of
+//! document 01; that a refusal left every slice as it was and answered zeros; that nothing is written beyond an answer or outside a slice; and that a
+//! circuit that was changed is one still.
+use std::collections::BTreeMap;
+
+use atzunelca::sys::*;
+
+use crate::cells::Rng;
+use crate::clock;
+
+const GUARD: u64 = 0xa5a5_5a5a_dead_beef;
+const BEYOND: usize = 4;
+
+/// A slice with words around it that no call may touch.
+#[derive(Clone, PartialEq)]
+struct Lent(Vec<u64>);
+
+impl Lent {
+    fn new(words: &[u64]) -> Self {
+        let guard = [GUARD; BEYOND];
+        Lent([&guard[..], words, &guard[..]].concat())
+    }
+
+    fn filled(length: usize) -> Self {
+        Self::new(&vec![GUARD; length])
+    }
+
+    fn len(&self) -> usize {
+        self.0.len() - 2 * BEYOND
+    }
+
+    fn words(&self) -> &[u64] {
+        &self.0[BEYOND..self.0.len() - BEYOND]
+    }
+
+    fn words_mut(&mut self) -> &mut [u64] {
+        let end = self.0.len() - BEYOND;
+        &mut self.0[BEYOND..end]
+    }
+
+    fn ptr(&self) -> *const u64 {
+        self.words().as_ptr()
+    }
+
+    fn ptr_mut(&mut self) -> *mut u64 {
+        self.words_mut().as_mut_ptr()
+    }
+
+    fn guarded(&self) -> bool {
+        let inside = self.0.len() - BEYOND;
+        self.0[..BEYOND].iter().chain(&self.0[inside..]).all(|&word| word == GUARD)
+    }
+}
+
+/// Everything that one call may be lent.
+#[derive(Clone, PartialEq)]
+struct Slices {
+    m: Lent,
+    ids: Lent,
+    first: Lent,
+    second: Lent,
+    third: Lent,
+    out: Lent,
+}
+
+/// What an accepted call answers: how many values, and how many places of `first` and `second` it may write.
+struct Promise {
+    values: usize,
+    lists: fn(&[u64]) -> [u64; 2],
+    changes: bool,
+    is_id: bool,
+}
+
+const NAMES: [&str; 30] = [
+    "start",
+    "is_circuit",
+    "read",
+    "used",
+    "free",
+    "equal",
+    "input",
+    "challenge",
+    "base_constant",
+    "zero",
+    "one",
+    "minus_one",
+    "extension_constant",
+    "add",
+    "multiply",
+    "subtract",
+    "negate",
+    "sum",
+    "is_zero",
+    "is_one",
+    "is_minus_one",
+    "degree",
+    "highest",
+    "base_test",
+    "evaluate",
+    "visible",
+    "walk",
+    "count_references",
+    "distinct_counts",
+    "lower",
+];
+
+/// Which refusals a call may give, by their numbers.
+fn allowed(call: usize) -> &'static [u64] {
+    match NAMES[call] {
+        "start" | "is_circuit" | "used" | "free" => &[1],
+        "input" => &[1, 3, 4, 6],
+        "challenge" => &[1, 4, 6],
+        "base_constant" | "extension_constant" => &[1, 5, 6],
+        "zero" | "one" | "minus_one" => &[1, 6],
+        "add" | "multiply" | "subtract" | "negate" => &[1, 2, 6],
+        "sum" => &[1, 2, 6, 7],
+        "degree" | "highest" => &[1, 2, 11],
+        "evaluate" => &[1, 2, 5, 15],
+        "walk" | "distinct_counts" => &[1, 2, 13],
+        "count_references" => &[1, 2, 12, 14],
+        "lower" => &[1, 2, 6, 8, 9, 10, 11, 12, 13],
+        _ => &[1, 2],
+    }
+}
+
+fn promise(call: usize) -> Promise {
+    let values = match NAMES[call] {
+        "start" | "is_circuit" | "count_references" => 0,
+        "read" => 6,
+        "evaluate" => 3,
+        "lower" => 2,
+        _ => 1,
+    };
+    let lists: fn(&[u64]) -> [u64; 2] = match NAMES[call] {
+        "walk" => |out| [out[0], u64::MAX],
+        "distinct_counts" => |out| [out[0], 0],
+        "lower" => |out| [out[0], out[1]],
+        _ => |_| [0, 0],
+    };
+    let changes = matches!(call, 0 | 6..=17) || matches!(NAMES[call], "count_references" | "lower");
+    Promise { values, lists, changes, is_id: (6..=17).contains(&call) }
+}
+
+/// SAFETY: the slices are apart, each as long as it says.
+fn call(which: usize, s: &mut Slices, [a, b, c]: [u64; 3]) -> u64 {
+    let (n, room, count) = (s.m.len(), s.out.len(), s.ids.len());
+    let (p, m, out) = (s.m.ptr(), s.m.ptr_mut(), s.out.ptr_mut());
+    let (ids, ids_mut) = (s.ids.ptr(), s.ids.ptr_mut());
+    let (first, second, third) = (s.first.ptr_mut(), s.second.ptr_mut(), s.third.ptr());
+    let (firsts, seconds, thirds) = (s.first.len(), s.second.len(), s.third.len());
+    unsafe {
+        match NAMES[which] {
+            "start" => atz_start(m, n, a),
+            "is_circuit" => atz_is_circuit(p, n),
+            "read" => atz_read(p, n, a, out, room),
+            "used" => atz_used(p, n, out, room),
+            "free" => atz_free(p, n, out, room),
+            "equal" => atz_equal(p, n, a, b, out, room),
+            "input" => atz_input(m, n, a, b, out, room),
+            "challenge" => atz_challenge(m, n, a, out, room),
+            "base_constant" => atz_base_constant(m, n, a, out, room),
+            "zero" => atz_zero(m, n, out, room),
+            "one" => atz_one(m, n, out, room),
+            "minus_one" => atz_minus_one(m, n, out, room),
+            "extension_constant" => atz_extension_constant(m, n, a, b, c, out, room),
+            "add" => atz_add(m, n, a, b, out, room),
+            "multiply" => atz_multiply(m, n, a, b, out, room),
+            "subtract" => atz_subtract(m, n, a, b, out, room),
+            "negate" => atz_negate(m, n, a, out, room),
+            "sum" => atz_sum(m, n, ids, count, out, room),
+            "is_zero" => atz_is_zero(p, n, a, out, room),
+            "is_one" => atz_is_one(p, n, a, out, room),
+            "is_minus_one" => atz_is_minus_one(p, n, a, out, room),
+            "degree" => atz_degree(p, n, a, out, room),
+            "highest" => atz_highest(p, n, ids, count, out, room),
+            "base_test" => atz_base_test(p, n, a, out, room),
+            "evaluate" => atz_evaluate(p, n, a, first, firsts, second, seconds, third, thirds, out, room),
+            "visible" => atz_visible(p, n, ids, count, out, room),
+            "walk" => atz_walk(p, n, ids, count, first, firsts, second, seconds, out, room),
+            "count_references" => atz_count_references(m, n, ids, count),
+            "distinct_counts" => atz_distinct_counts(p, n, a, first, firsts, out, room),
+            "lower" => atz_lower(m, n, ids_mut, count, a, b, c, first, firsts, second, seconds, out, room),
+            _ => unreachable!(),
+        }
+    }
+}
+
+/// A word that tests look at: an edge, a small one, or any.
+fn word(rng: &mut Rng, used: u64) -> u64 {
+    const P: u64 = atzunelca::P;
+    match rng.below(8) {
+        0 => rng.pick(&[0, 1, 2, 3, 4, 5, 8, 9, 4096, 4097, 65_535, 65_536, P - 1, P, P + 1, u64::MAX]),
+        1 => used.wrapping_add(rng.below(3) as u64).wrapping_sub(1),
+        2 => rng.next(),
+        _ => rng.below(used as usize + 1) as u64,
+    }
+}
+
+/// An id, mostly of a node, and often of a late one.
+fn id(rng: &mut Rng, used: u64) -> u64 {
+    match rng.below(100) {
+        0..3 => word(rng, used),
+        3..40 => used.saturating_sub(1 + rng.below(3) as u64),
+        _ => rng.below(used.max(1) as usize) as u64,
+    }
+}
+
+/// A circuit grown by calls: so many nodes or fewer, some lowered.
+fn grown(rng: &mut Rng, nodes: u64) -> Vec<u64> {
+    let places = nodes as usize + rng.below(30) + if rng.percent(50) { 3 * nodes as usize } else { 0 };
+    let mut m = vec![0; 2 + 6 * places + rng.below(6)];
+    let (p, n) = (m.as_mut_ptr(), m.len());
+    let mut out = 0;
+    unsafe {
+        atz_start(p, n, 1 + rng.below(2) as u64);
+        // Some have a tower of squarings or doublings in them: high degrees, many paths.
+        let tower = rng.below(20);
+        while *p.add(1) < nodes {
+            let used = *p.add(1);
+            let refused = match rng.below(if used < 4 { 5 } else { 12 }) {
+                5.. if tower == 0 => atz_multiply(p, n, used - 1, used - 1, &mut out, 1),
+                5.. if tower == 1 && used > 7 => atz_add(p, n, used - 1, used - 1, &mut out, 1),
+                0..=2 => atz_input(p, n, rng.below(4) as u64, rng.below(8) as u64, &mut out, 1),
+                3 => atz_challenge(p, n, rng.below(4) as u64, &mut out, 1),
+                4 => atz_extension_constant(p, n, rng.below(4) as u64, rng.below(2) as u64, 0, &mut out, 1),
+                5..=8 => {
+                    atz_multiply(p, n, id(rng, used), used - 1 - rng.below(used as usize).min(3) as u64, &mut out, 1)
+                }
+                9 => atz_subtract(p, n, id(rng, used), id(rng, used), &mut out, 1),
+                _ => atz_add(p, n, id(rng, used), id(rng, used), &mut out, 1),
+            };
+            if refused == 6 {
+                break;
+            }
+        }
+        if rng.percent(40) {
+            let used = *p.add(1);
+            let mut roots = [used - 1, rng.below(used as usize) as u64];
+            let mut lists = [vec![0u64; 4096], vec![0u64; 4096]];
+            let [main, aux] = &mut lists;
+            let mut counts = [0; 2];
+            let target = 2 + rng.below(3) as u64;
+            atz_lower(
+                p,
+                n,
+                roots.as_mut_ptr(),
+                2,
+                target,
+                8,
+                8,
+                main.as_mut_ptr(),
+                4096,
+                aux.as_mut_ptr(),
+                4096,
+                counts.as_mut_ptr(),
+                2,
+            );
+        }
+    }
+    m
+}
+
+/// Slices and arguments for a call on this circuit, some of them damaged.
+fn prepared(rng: &mut Rng, which: usize, circuit: &[u64]) -> (Slices, [u64; 3]) {
+    let used = circuit[1];
+    let mut m = Lent::new(if rng.percent(3) { &circuit[..rng.below(circuit.len() + 1)] } else { circuit });
+    let damages = rng.pick(&[0, 1, 1, 1, 1, 2, 3, 8]);
+    let in_use = (2 + 6 * used as usize).min(m.len());
+    for _ in 0..damages {
+        if in_use > 0 {
+            let at = if rng.percent(5) { rng.below(m.len()) } else { rng.below(in_use) };
+            m.words_mut()[at] = word(rng, used);
+        }
+    }
+    let ids: Vec<u64> = (0..rng.pick(&[0, 1, 1, 2, 2, 3, 5])).map(|_| id(rng, used)).collect();
+    let small = |rng: &mut Rng, length: usize| -> Vec<u64> {
+        let damaged = rng.percent(10);
+        (0..length).map(|_| if damaged { word(rng, used) } else { rng.next() >> 2 }).collect()
+    };
+    let (first, second, third) = match NAMES[which] {
+        "evaluate" => {
+            let lengths = if rng.percent(70) { [48, 144, 60] } else { [rng.below(50), rng.below(150), rng.below(40)] };
+            let [a, b, c] = lengths.map(|length| Lent::new(&small(rng, length)));
+            (a, b, c)
+        }
+        "walk" => {
+            (Lent::filled(rng.below(400)), Lent::filled(used as usize + rng.below(20) * rng.below(2)), Lent::filled(0))
+        }
+        "lower" => {
+            let room = if rng.percent(80) { 4096.min(used as usize) } else { rng.below(20) };
+            (Lent::filled(room), Lent::filled(room), Lent::filled(0))
+        }
+        _ => (Lent::filled(rng.below(60)), Lent::filled(0), Lent::filled(0)),
+    };
+    let arguments = match NAMES[which] {
+        "start" => [rng.below(4) as u64, 0, 0],
+        "input" => [rng.below(5) as u64, word(rng, used), 0],
+        "challenge" | "base_constant" | "extension_constant" => [word(rng, used), word(rng, used), word(rng, used)],
+        "lower" => {
+            let count = |rng: &mut Rng| {
+                if rng.percent(90) { 8 + rng.below(40) as u64 } else { word(rng, used) }
+            };
+            let target = if rng.percent(90) { 2 + rng.below(4) as u64 } else { word(rng, used) };
+            [target, count(rng), count(rng)]
+        }
+        _ => [id(rng, used), id(rng, used), 0],
+    };
+    let out = Lent::filled(rng.pick(&[0, 1, 1, 1, 2, 3, 6, 6, 8]));
+    (Slices { m, ids: Lent::new(&ids), first, second, third, out }, arguments)
+}
+
+/// What is wrong with an answer, if anything is.
+fn wrong(which: usize, number: u64, before: &Slices, after: &Slices) -> Option<&'static str> {
+    let all = [&after.m, &after.ids, &after.first, &after.second, &after.third, &after.out];
+    if !all.iter().all(|slice| slice.guarded()) {
+        return Some("a word outside a slice");
+    }
+    let Promise { values, lists, changes, is_id } = promise(which);
+    let told = values.min(after.out.len());
+    if after.out.words()[told..] != before.out.words()[told..] {
+        return Some("a word of `out` beyond the values");
+    }
+    if number != 0 {
+        if !allowed(which).contains(&number) {
+            return Some("a refusal that this call doesn't give");
+        }
+        let unchanged = Slices { out: after.out.clone(), ..before.clone() };
+        if unchanged != *after {
+            return Some("a refusal that changed a slice");
+        }
+        return after.out.words()[..told]
+            .iter()
+            .any(|&word| word != 0)
+            .then_some("a refusal whose values are no zeros");
+    }
+    if !changes && before.m != after.m || before.third != after.third {
+        return Some("a reading that changed a slice");
+    }
+    if which != 0 && unsafe { atz_is_circuit(after.m.ptr(), after.m.len()) } != 0 {
+        return Some("accepted, and no circuit afterwards");
+    }
+    if is_id && told == 1 && after.out.words()[0] >= after.m.words()[1] {
+        return Some("an id of no node");
+    }
+    if told == values {
+        let written = lists(after.out.words());
+        for (list, old, most) in
+            [(&after.first, &before.first, written[0]), (&after.second, &before.second, written[1])]
+        {
+            let most = usize::try_from(most).unwrap_or(usize::MAX).min(list.len());
+            if list.words()[most..] != old.words()[most..] {
+                return Some("a list place beyond the answer");
+            }
+        }
+    }
+    None
+}
+
+/// As many calls as it takes for `most` on damaged circuits; prints how many of each were accepted and refused, and the longest.
+pub fn fuzz(most: u64, seed: u64) {
+    let mut rng = Rng::new(&[seed]);
+    let mut told: BTreeMap<(usize, u64), u64> = BTreeMap::new();
+    let mut longest = (0.0, 0, 0);
+    let mut circuit = grown(&mut rng, 20);
+    let begun = std::time::Instant::now();
+    let (mut damaged, mut turn) = (0, 0);
+    while damaged < most {
+        if turn % 50 == 0 {
+            let nodes = if turn % 100_000 == 0 { 500 + rng.below(3500) } else { 1 + rng.below(40) };
+            circuit = grown(&mut rng, nodes as u64);
+        }
+        let which = rng.below(NAMES.len());
+        let (mut slices, arguments) = prepared(&mut rng, which, &circuit);
+        damaged += u64::from(slices.m.words() != circuit);
+        let before = slices.clone();
+        let clock = clock::now();
+        let number = call(which, &mut slices, arguments);
+        let seconds = clock::now() - clock;
+        if seconds > longest.0 {
+            longest = (seconds, which, circuit[1]);
+        }
+        if let Some(wrong) = wrong(which, number, &before, &slices) {
+            println!("turn {turn} of seed {seed}: {} {arguments:?} answered {number}: {wrong}", NAMES[which]);
+            std::process::exit(1);
+        }
+        *told.entry((which, number)).or_default() += 1;
+        turn += 1;
+    }
+    for (which, name) in NAMES.iter().enumerate() {
+        let of = told.range((which, 0)..(which + 1, 0)).map(|((_, number), count)| format!("{number}: {count}"));
+        println!("{name}: {}", of.collect::<Vec<_>>().join(", "));
+    }
+    let refused: u64 = told.iter().filter(|((_, number), _)| *number != 0).map(|(_, count)| count).sum();
+    println!(
+        "calls {turn}, of them {damaged} on damaged circuits, refused {refused}, wrong 0, longest {:.3} ms ({}, {} nodes), {:.0} seconds in all",
+        longest.0 * 1e3,
+        NAMES[longest.1],
+        longest.2,
+        begun.elapsed().as_secs_f64()
+    );
+}

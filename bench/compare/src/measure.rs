@@ -1,0 +1,136 @@
+//! Times side by side, as lines of words with tabs between: what, circuit, nodes, how many calls or substitutions, then microseconds: the Rust's,
+//! ours, and of building ours by the inner calls. Both sides' answers are compared first.
+use crate::both::{Both, Forgetting};
+use crate::calls::Call;
+use crate::clock::{least, run};
+use crate::{ours, rust, shapes};
+
+fn line(what: &str, circuit: &str, nodes: u64, count: usize, seconds: &[f64]) {
+    let micros: Vec<String> = seconds.iter().map(|s| format!("{:.2}", s * 1e6)).collect();
+    println!("{what}\t{circuit}\t{nodes}\t{count}\t{}", micros.join("\t"));
+}
+
+fn build(circuit: &str, turns: usize) {
+    let calls = shapes::calls(circuit);
+    let both = Both::new(&calls);
+    let mut words = ours::fresh();
+    assert_eq!(both.ids, ours::span_build_public(&mut words, &calls));
+    assert_eq!(both.m, words);
+    let seconds = least(
+        turns,
+        [
+            run(|| Forgetting(rust::Builder::new()), |b| rust::span_build_rust(&b.0, &calls)),
+            run(ours::fresh, |m| ours::span_build_public(m, &calls)),
+            run(ours::fresh, |m| ours::span_build_inner(m, &calls)),
+        ],
+    );
+    let steps = calls.iter().filter(|call| !matches!(call, Call::Root(_))).count();
+    line("build", circuit, both.used(), steps, &seconds);
+}
+
+fn evaluate(circuit: &str, turns: usize) {
+    let both = Both::new(&shapes::one_root(shapes::calls(circuit)));
+    let (root, node) = both.last();
+    let tables = rust::Tables::new();
+    let lent = tables.lent();
+    assert_eq!(rust::span_evaluate_rust(node, &tables), ours::span_evaluate_ours(&both.m, root, &lent));
+    let seconds = least(
+        turns,
+        [
+            run(|| (), |_| rust::span_evaluate_rust(node, &tables)),
+            run(|| (), |_| ours::span_evaluate_ours(&both.m, root, &lent)),
+        ],
+    );
+    line("evaluate", circuit, both.used(), 1, &seconds);
+}
+
+const MAINS: u64 = rust::MAIN as u64;
+const AUXS: u64 = rust::AUX as u64;
+
+fn lower(circuit: &str, target: u64, turns: usize) {
+    let calls = shapes::calls(circuit);
+    let both = Both::new(&calls);
+    let (before, ids, mut nodes) = (both.used(), both.root_ids(), both.root_nodes());
+    let mut lent = ours::Lowering::new(&both.m, &ids);
+    assert_eq!(0, ours::span_lower_ours(&mut lent, target, MAINS, AUXS), "{circuit}");
+    let (main, aux) = rust::span_lower_rust(&mut nodes, target);
+    for (list, other) in [(&main, &lent.main), (&aux, &lent.aux), (&nodes, &lent.roots)] {
+        assert!(list.iter().map(rust::id).eq(other.iter().copied()), "another lowering");
+    }
+    assert_eq!(lent.m[1], both.builder.0.spy_id_counter());
+    let again = || {
+        let both = Both::new(&calls);
+        let nodes = both.root_nodes();
+        (both, nodes)
+    };
+    let seconds = least(
+        turns,
+        [
+            run(again, |(_, nodes)| rust::span_lower_rust(nodes, target)),
+            run(|| ours::Lowering::new(&both.m, &ids), |lent| ours::span_lower_ours(lent, target, MAINS, AUXS)),
+        ],
+    );
+    line(&format!("lower to {target}"), circuit, before, main.len() + aux.len(), &seconds);
+}
+
+/// One span alone, for callgrind to count between its entry and its return.
+pub fn once(what: &str, circuit: &str) {
+    let calls = shapes::calls(circuit);
+    let (span, target) =
+        what.split_once('=').map_or((what, 0), |(span, target)| (span, target.parse().expect("a target")));
+    match span {
+        "span_build_rust" => drop(rust::span_build_rust(&Forgetting(rust::Builder::new()).0, &calls)),
+        "span_build_public" => drop(ours::span_build_public(&mut ours::fresh(), &calls)),
+        "span_build_inner" => drop(ours::span_build_inner(&mut ours::fresh(), &calls)),
+        "span_evaluate_rust" => {
+            _ = rust::span_evaluate_rust(Both::new(&shapes::one_root(calls)).last().1, &rust::Tables::new())
+        }
+        "span_evaluate_ours" => {
+            let both = Both::new(&shapes::one_root(calls));
+            ours::span_evaluate_ours(&both.m, both.last().0, &rust::Tables::new().lent());
+        }
+        "span_lower_rust" => drop(rust::span_lower_rust(&mut Both::new(&calls).root_nodes(), target)),
+        "span_lower_ours" => {
+            let both = Both::new(&calls);
+            ours::span_lower_ours(&mut ours::Lowering::new(&both.m, &both.root_ids()), target, MAINS, AUXS);
+        }
+        _ => panic!("no span {what}"),
+    }
+}
+
+/// All of it, or what begins with a word.
+pub fn measure(only: Option<&str>) {
+    let wants = |what: &str| only.is_none_or(|only| what.starts_with(only));
+    if wants("build") {
+        for (shape, sizes) in [
+            ("products", &[250, 500, 1000, 2000, 4000][..]),
+            ("selectors", &[250, 500, 1000, 2000, 4000]),
+            ("tower", &[250, 500]),
+            ("sums", &[250, 500]),
+        ] {
+            shapes::family(shape, sizes).iter().for_each(|circuit| build(circuit, 15));
+        }
+    }
+    if wants("evaluate") {
+        for (shape, sizes) in [
+            ("products", &[250, 500, 1000, 1865, 3700][..]),
+            ("selectors", &[250, 500, 1000, 1910, 3750]),
+            ("tower", &[8, 12, 16, 20]),
+            ("sums", &[8, 12, 16, 20]),
+        ] {
+            shapes::family(shape, sizes).iter().for_each(|circuit| evaluate(circuit, 300));
+        }
+    }
+    if wants("lower") {
+        for (shape, sizes, targets) in [
+            ("products", &[250, 500, 1000, 1500][..], &[2, 3, 4, 5][..]),
+            ("selectors", &[250, 500, 1000, 1300], &[2, 3, 4, 5]),
+            ("tower", &[6, 8, 10, 12], &[2]),
+            ("sums", &[6, 8, 10, 12], &[2]),
+        ] {
+            for circuit in shapes::family(shape, sizes) {
+                targets.iter().for_each(|&target| lower(&circuit, target, 11));
+            }
+        }
+    }
+}
