@@ -9,7 +9,7 @@ use native.Mathlib.Omega.{arith}
 use lib.ListN.{length, getD, set, length-set}
 use lib.Seq.{ext-getD, getD-set-same, getD-set-other}
 use Rattle.circuit.specs.Words.{used, limit, offset}
-use Rattle.circuit.specs.Rank.{Checked}
+use Rattle.circuit.specs.Rank.{Sorted}
 use Rattle.circuit.proofs.Tests.{below-or, same-or}
 use Rattle.classes.specs.Find.{Fillable}
 use Rattle.build.specs.Inner.{Kept}
@@ -91,11 +91,11 @@ module _ (most : ℕ) (m m′ saved : List ℕ) (two : 2 ≤ length m) (k : Kept
           rw e at (r .back x (omega arith) ∙ s .each x (omega arith) (omega arith))
 
 -- the tables anew
-pub fillable : (m order rank num t least : List ℕ) (answer : _) → Classable m num t least → Checked m order rank answer → 4096 ≤ length order → used m ≤ 4096 → Fillable m order rank num t least
-fillable m order rank num t least answer c k o u = record {
+pub fillable : (m order rank num t least : List ℕ) → Classable m num t least → Sorted m order rank → 4096 ≤ length order → used m ≤ 4096 → Fillable m order rank num t least
+fillable m order rank num t least c k o u = record {
   orderly = record {
     circuit = c .circuit;
-    sorted = k .sorted (k .told ∙ ap not (c .circuit));
+    sorted = k;
     ids = omega arith;
     sized = c .sized;
   };

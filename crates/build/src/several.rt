@@ -3,8 +3,8 @@
 use crate::steps::Made;
 use crate::steps::find_or_make;
 use crate::steps::operate;
-use circuit::check::check;
 use circuit::check::limit_of;
+use circuit::check::order_of;
 use circuit::node::Expression;
 use circuit::node::Op;
 use circuit::place::HEADER;
@@ -59,7 +59,7 @@ pub fn class_anew(m: &[u64], numbers: &mut [u64], table: &mut [u64], least: &mut
 {
     let mut order = [0u64; 4096];
     let mut rank = [0u64; 4096];
-    check(m, &mut order, &mut rank);
+    order_of(m, &mut order, &mut rank);
     class_tables(m, &order, &rank, numbers, table, least);
 }
 

@@ -44,7 +44,8 @@ pub enum Request {
     Subtract(u64, u64),
 }
 
-fn answered(made: Made) -> Answer
+// An inner form's answer as a call's.
+pub fn answered(made: Made) -> Answer
     ensures { λ r. ⌜ r ≡ answerOf made ⌝ }
 {
     match made {
@@ -53,7 +54,8 @@ fn answered(made: Made) -> Answer
     }
 }
 
-fn step(
+// The inner form of a request, with class tables that fit.
+pub fn step(
     m: &mut [u64],
     numbers: &mut [u64],
     table: &mut [u64],

@@ -1,13 +1,15 @@
 -- How the parts of the check decide NOT_CIRCUIT. Assumes nothing.
-use mathlib.Core.Path.{_≡_, sym, ap}
+use mathlib.Core.Path.{_≡_, sym, ap, _∙_}
 use mathlib.Core.Bool.{Bool, true, false, not, false≢true}
 use mathlib.Core.List.{List}
-use Prim.Native.Nat.{ℕ}
+use Prim.Native.Nat.{ℕ, _≤_}
+use lib.ListN.{length}
 use Rattle.circuit.specs.Lists.{any, upTo}
 use Rattle.circuit.specs.Words.{used}
 use Rattle.circuit.specs.NotCircuit.{badHeader, badNode, notCircuit}
-use Rattle.circuit.specs.Rank.{Checked}
-use Rattle.circuit.specs.Walk.{Ordered}
+use Rattle.circuit.specs.Rank.{Sorted, Checked}
+use Rattle.circuit.specs.Walk.{Walkable, Ordered}
+use Rattle.circuit.proofs.Valid.{valid-header, valid-nodes}
 
 module _ (m order rank : List ℕ) where
   refused : notCircuit m ≡ true → Checked m order rank false
@@ -24,3 +26,10 @@ module _ (m order rank : List ℕ) where
   pub order-decides : (answer : Bool) → badHeader m ≡ false → any (badNode m) (upTo (used m)) ≡ false → Ordered m order rank answer → Checked m order rank answer
   unfolding notCircuit
   order-decides answer h n w = record { told = rw (h, n) (w .told); sorted = w .sorted }
+
+  -- of a circuit
+  pub known-order : (answer : Bool) → notCircuit m ≡ false → Ordered m order rank answer → Sorted m order rank
+  known-order answer v w = w .sorted (w .told ∙ ap not (valid-nodes m v .1))
+
+pub known-walkable : (m rank : List ℕ) → notCircuit m ≡ false → 4096 ≤ length rank → Walkable m rank
+known-walkable m rank v r = record { header = valid-header m v; good = valid-nodes m v .0; room = r }

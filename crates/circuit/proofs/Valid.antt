@@ -59,7 +59,7 @@ module _ (m : List ℕ) (valid : notCircuit m ≡ false) where
   pub valid-length : 2 ≤ length m
   valid-length = header-room m valid-header .0
 
-  valid-nodes : (any (badNode m) (upTo (used m)) ≡ false) × (cyclic m ≡ false)
+  pub valid-nodes : (any (badNode m) (upTo (used m)) ≡ false) × (cyclic m ≡ false)
   unfolding notCircuit
   valid-nodes = neither (any (badNode m) (upTo (used m))) (cyclic m) (neither (badHeader m) _ valid .1)
 

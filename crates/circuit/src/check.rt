@@ -13,8 +13,8 @@ ghost use Prim.Native.Nat.{_+_, _<_, _≤_};
 ghost use lib.ListN.{length};
 ghost use Rattle.circuit.specs.Lists.{any, upTo};
 ghost use Rattle.circuit.specs.Words.{used, limit, offset, isNext};
-ghost use Rattle.circuit.specs.NotCircuit.{badRow, badIndex, badWord, badWords, badExpression, badNode, badHeader};
-ghost use Rattle.circuit.specs.Rank.{Checked};
+ghost use Rattle.circuit.specs.NotCircuit.{badRow, badIndex, badWord, badWords, badExpression, badNode, badHeader, notCircuit};
+ghost use Rattle.circuit.specs.Rank.{Sorted, Checked};
 ghost use Rattle.circuit.specs.Walk.{stepOf, Unfinished, Walkable, Visiting, Visited, Walked, Placing, Placed, Ordered};
 
 // p = 2^64 - 2^32 + 1
@@ -286,4 +286,12 @@ pub fn check(m: &[u64], order: &mut [u64], rank: &mut [u64]) -> bool
         return false;
     }
     sort(m, order, rank)
+}
+
+// The order and the rank of words that are known to be a circuit.
+pub fn order_of(m: &[u64], order: &mut [u64], rank: &mut [u64])
+    requires { ⌜ (notCircuit (now m) ≡ false) × ((4096 ≤ length (now order)) × (4096 ≤ length (now rank))) ⌝ }
+    ensures { λ r. ⌜ Sorted (now (m .entry)) (now (order .exit)) (now (rank .exit)) ⌝ }
+{
+    sort(m, order, rank);
 }

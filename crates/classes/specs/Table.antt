@@ -31,7 +31,7 @@ listed w = w .kind ∷ w .first ∷ w .second ∷ w .third ∷ []
 
 -- the bucket of a key: any would do, as long as it is below 4,093, a prime
 unfoldable pub spread : List ℕ → ℕ
-spread w = (getD w 0 0 % 16 + 1021 * (getD w 1 0 % 65521) + 2801 * (getD w 2 0 % 65521) + 3571 * (getD w 3 0 % 65521)) % 4093
+spread w = (getD w 0 0 % 16 + 1021 * (getD w 1 0 % 4294967296) + 2801 * (getD w 2 0 % 4294967296) + 3571 * (getD w 3 0 % 4294967296)) % 4093
 
 -- p is the last number below top in bucket h, or 0
 pub record Last (t : List ℕ) (h top p : ℕ) : Type 0 where

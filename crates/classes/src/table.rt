@@ -20,11 +20,14 @@ const FIRST: usize = 4089;
 // A prime number: operands' numbers, which are dense, then spread over the buckets.
 const BUCKETS: u64 = 4093;
 
+// The lower half of a word is enough of it, and a power of two is quick to divide by.
+const HALF: u64 = 4294967296;
+
 // The bucket of a key.
 fn bucket(w: FourWords) -> u64
     ensures { λ r. ⌜ r ≡ spread (listed w) ⌝ }
 {
-    (w.kind % 16 + 1021 * (w.first % 65521) + 2801 * (w.second % 65521) + 3571 * (w.third % 65521))
+    (w.kind % 16 + 1021 * (w.first % HALF) + 2801 * (w.second % HALF) + 3571 * (w.third % HALF))
         % BUCKETS
 }
 

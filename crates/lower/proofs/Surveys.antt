@@ -6,22 +6,21 @@ use mathlib.Core.Option.{none, some}
 use mathlib.Core.List.{List, [], _∷_}
 use native.Mathlib.Omega.{arith}
 use lib.ListN.{length, take}
-use lib.Dec.{leb, eqb}
+use lib.Dec.{leb}
 use borrow.Author.Tests.{lt-leb}
-use Rattle.circuit.specs.Lists.{if_then_else_, upTo, any, keep, bit}
+use Rattle.circuit.specs.Lists.{if_then_else_, upTo, any, keep}
 use Rattle.circuit.specs.Words.{used}
 use Rattle.circuit.specs.Tree.{tree}
 use Rattle.circuit.specs.NotCircuit.{notCircuit, badId}
-use Rattle.circuit.specs.Rank.{at, Sorted, Checked}
+use Rattle.circuit.specs.Rank.{at, Sorted}
 use Rattle.circuit.proofs.Tests.{is-false}
 use Rattle.circuit.proofs.Lists.{clash, upTo-length}
 use Rattle.paths.specs.Counting.{PathCounts, Countable}
 use Rattle.paths.proofs.Below.{any-some}
 use Rattle.paths.proofs.Counts.{valid-top}
 use Rattle.read.specs.Readings.{isBase}
-use Rattle.read.specs.Tables.{Filled, Ranked, AllAsked}
-use Rattle.read.specs.Degrees.{degreeTo}
-use Rattle.read.specs.Bases.{baseBit}
+use Rattle.read.specs.Tables.{Filled, Ranked}
+use Rattle.read.specs.Degrees.{degreeTo, Ordered}
 use Rattle.lowering.specs.Lowering.{tooHigh}
 use Rattle.lower.specs.Tables.{Degrees, aboveIn, isHighIn, highIn, Listed, bestIn}
 use Rattle.lower.specs.Survey.{Surveyed, Occurring, Choosable, chosenNext, Picked}
@@ -29,27 +28,11 @@ use Rattle.lower.specs.declared.next.Next.the-variants.{Node, Done}
 use Rattle.lowering.proofs.ListLaws.{in-keep, in-upTo}
 use Rattle.lower.proofs.Readings.{high-is, best-is, too-high-is, small-target}
 
--- a circuit passes its check, so the order is one
-pub checked-sorted : (m order rank : List ℕ) (b : Bool) → notCircuit m ≡ false → Checked m order rank b → Sorted m order rank
-checked-sorted m order rank b valid c = c .sorted (c .told ∙ rw valid)
-
 ranked-of : (m order rank : List ℕ) → notCircuit m ≡ false → Sorted m order rank → Ranked m rank
 ranked-of m order rank valid s = record { valid = valid; left-first = s .left-first; right-first = s .right-first }
 
-pub all-ranked : (m rank table : List ℕ) → Ranked m rank → 4096 ≤ length table → AllAsked 1 m rank table
-all-ranked m rank table r room = let t = valid-top m (r .valid) in record { ranked = r; room = omega arith }
-
-pub all-asked : (m order rank table : List ℕ) → notCircuit m ≡ false → Sorted m order rank → 4096 ≤ length table → AllAsked 1 m rank table
-all-asked m order rank table valid s room = all-ranked m rank table (ranked-of m order rank valid s) room
-
--- the base test from its bit
-pub base-told : (m bits : List ℕ) (s e : ℕ) → Filled (used m) (at bits) (baseBit m) → s < used m → e ≡ at bits s → eqb e 1 ≡ isBase (tree m s)
-unfolding baseBit
-base-told m bits s e f l q = rw (q, f .told s l) (go (isBase (tree m s)))
-  where
-    go : (b : Bool) → eqb (bit b) 1 ≡ b
-    go true = refl
-    go false = refl
+pub orderly : (m order rank table : List ℕ) → notCircuit m ≡ false → Sorted m order rank → 4096 ≤ length order → 4096 ≤ length table → Ordered m order rank table
+orderly m order rank table valid s o room = let t = valid-top m valid in record { valid = valid; sorted = s; order-room = omega arith; room = omega arith }
 
 pub degrees-told : (m degrees : List ℕ) → Filled (used m) (at degrees) (degreeTo m) → Degrees m degrees
 unfolding degreeTo

@@ -1,15 +1,13 @@
 // The next choice, with tables that are filled anew: each pass looks at every node once, whatever the paths are.
 use crate::choose::best_candidate;
-use crate::choose::entry;
 use crate::choose::high_nodes;
 use crate::tests::too_high;
-use circuit::check::check;
+use circuit::check::order_of;
 use paths::counting::count_paths;
-use read::base_test::bases;
-use read::degree;
+use read::base_test;
+use read::degree::degrees_along;
 ghost use mathlib.Core.Path.{_≡_};
-ghost use Prim.Native.Nat.{_<_, _≤_};
-ghost use lib.ListN.{length};
+ghost use Prim.Native.Nat.{_<_};
 ghost use Rattle.circuit.specs.Words.{used};
 ghost use Rattle.circuit.specs.Tree.{tree};
 ghost use Rattle.paths.specs.Counting.{PathCounts};
@@ -36,8 +34,8 @@ pub fn survey(
     requires { ⌜ Surveyable (now m) (now roots) (now order) (now rank) (now degrees) (now counts) ⌝ }
     ensures { λ r. ⌜ Surveyed (now (m .entry)) (now (roots .entry)) (now (order .exit)) (now (rank .exit)) (now (degrees .exit)) (now (counts .exit)) ⌝ }
 {
-    check(m, order, rank);
-    degree::degrees(m, rank, degrees);
+    order_of(m, order, rank);
+    degrees_along(m, order, rank, degrees);
     count_paths(m, order, rank, roots, counts);
 }
 
@@ -59,13 +57,15 @@ pub fn occurrences(
     count_paths(m, order, rank, &high[..many], found);
 }
 
-// The base test of node s. The bits of all nodes are left in a list of the caller's, which has no other use for it any more.
-fn is_base(m: &[u64], rank: &[u64], bits: &mut [u64], s: u64) -> bool
-    requires { ⌜ Ranked (now m) (now rank) × (4096 ≤ length (now bits)) ⌝ }
+// The base test of node s.
+fn is_base(m: &[u64], rank: &[u64], s: u64) -> bool
+    requires { ⌜ Ranked (now m) (now rank) ⌝ }
     ensures { λ r. ⌜ (s < used (now (m .entry)) → r ≡ isBase (tree (now (m .entry)) s)) ⌝ }
 {
-    bases(m, rank, bits);
-    entry(bits, s) == 1
+    if m[1] <= s {
+        return false;
+    }
+    base_test::is_base(m, rank, s)
 }
 
 // Chooses among the candidates, where some root's degree exceeds the target.
@@ -94,5 +94,5 @@ pub fn next_choice(m: &[u64], roots: &[u64], target: u64) -> Next
         &mut found,
     );
     let s = best_candidate(&degrees, &found, target, m[1]);
-    Next::Node(s, is_base(m, &rank, &mut high, s))
+    Next::Node(s, is_base(m, &rank, s))
 }

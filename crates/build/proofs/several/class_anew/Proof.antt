@@ -5,16 +5,16 @@ use Rattle.build.proofs.several.class_anew.Statement.{statement}
 use Rattle.build.proofs.several.class_anew.Tie as tie
 
 -- src/several.rt:63:14
-slice-aggregate-check : tie.Need-slice-aggregate-check
-slice-aggregate-check c = search needs
+slice-aggregate-order-of : tie.Need-slice-aggregate-order-of
+slice-aggregate-order-of c = search needs
 
 -- src/several.rt:63:26
-slice-aggregate-check-2 : tie.Need-slice-aggregate-check-2
-slice-aggregate-check-2 c = search needs
+slice-aggregate-order-of-2 : tie.Need-slice-aggregate-order-of-2
+slice-aggregate-order-of-2 c = search needs
 
 -- src/several.rt:63:5
-check-requires : tie.Need-check-requires
-check-requires c κs = search needs
+order-of-requires : tie.Need-order-of-requires
+order-of-requires c κs = (c .before .before .before .before .before .before .pre .circuit, (search needs, search needs))
 
 -- src/several.rt:64:21
 slice-aggregate-class-tables : tie.Need-slice-aggregate-class-tables
@@ -26,7 +26,7 @@ slice-aggregate-class-tables-2 c = search needs
 
 -- src/several.rt:64:5
 class-tables-requires : tie.Need-class-tables-requires
-class-tables-requires c κs = fillable _ _ _ _ _ _ _ (c .before .before .before .before .before .before .before .before .before .before .before .before .before .before .pre) (c .before .before .before .before .before .before .before .check .ensures) (search needs) (header-top _ (valid-header _ (c .before .before .before .before .before .before .before .before .before .before .before .before .before .before .pre .circuit)))
+class-tables-requires c κs = fillable _ _ _ _ _ _ (c .before .before .before .before .before .before .before .before .before .before .before .before .before .before .pre) (c .before .before .before .before .before .before .before .order-of .ensures) (search needs) (header-top _ (valid-header _ (c .before .before .before .before .before .before .before .before .before .before .before .before .before .before .pre .circuit)))
 
 -- src/several.rt:57:1
 same-length : tie.Need-same-length
@@ -48,9 +48,9 @@ pub class-anew-spec : {M : Type 1} → statement M
 class-anew-spec =
     tie.close
     (tie.spec
-    slice-aggregate-check
-    slice-aggregate-check-2
-    check-requires
+    slice-aggregate-order-of
+    slice-aggregate-order-of-2
+    order-of-requires
     slice-aggregate-class-tables
     slice-aggregate-class-tables-2
     class-tables-requires

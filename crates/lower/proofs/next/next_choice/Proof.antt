@@ -66,14 +66,11 @@ best-candidate-requires c κs = search needs
 slice-aggregate-is-base : tie.Need-slice-aggregate-is-base
 slice-aggregate-is-base c = search needs
 
-slice-aggregate-is-base-2 : tie.Need-slice-aggregate-is-base-2
-slice-aggregate-is-base-2 c = search needs
-
 is-base-requires : tie.Need-is-base-requires
-is-base-requires c κs = (ranked _ _ _ _ _ _ _ (c .before .before .before .before .before .before .before .before .before .before .before .before .before .before .before .before .before .before .before .before .before .before .before .before .before .before .before .before .before .pre) (c .before .before .before .before .before .before .before .before .before .before .before .before .before .before .before .before .before .before .before .before .before .before .survey .ensures) _ (c .before .before .before .before .before .before .before .before .before .before .before .before .before .before .before .before .too-high .ensures), omega arith)
+is-base-requires c κs = ranked _ _ _ _ _ _ _ (c .before .before .before .before .before .before .before .before .before .before .before .before .before .before .before .before .before .before .before .before .before .before .before .before .before .before .before .before .pre) (c .before .before .before .before .before .before .before .before .before .before .before .before .before .before .before .before .before .before .before .before .before .survey .ensures) _ (c .before .before .before .before .before .before .before .before .before .before .before .before .before .before .before .too-high .ensures)
 
 returns-2 : tie.Need-returns-2
-returns-2 c = picked-node _ _ _ _ _ _ _ (c .before .before .before .before .before .before .before .before .before .before .before .before .before .before .before .before .before .before .before .before .before .before .before .before .before .before .before .before .before .before .before .pre) (c .before .before .before .before .before .before .before .before .before .before .before .before .before .before .before .before .before .before .before .before .before .before .before .before .survey .ensures) _ (c .before .before .before .before .before .before .before .before .before .before .before .before .before .before .before .before .before .before .too-high .ensures) (not-false _ (c .before .before .before .before .before .before .before .before .before .before .before .before .before .before .before .before .before .if1 .left)) _ _ (c .before .before .before .before .before .before .before .before .before .before .occurrences .ensures) (c .before .before .before .before .best-candidate .ensures) _ (c .before .is-base .ensures)
+returns-2 c = picked-node _ _ _ _ _ _ _ (c .before .before .before .before .before .before .before .before .before .before .before .before .before .before .before .before .before .before .before .before .before .before .before .before .before .before .before .before .before .pre) (c .before .before .before .before .before .before .before .before .before .before .before .before .before .before .before .before .before .before .before .before .before .before .survey .ensures) _ (c .before .before .before .before .before .before .before .before .before .before .before .before .before .before .before .before .too-high .ensures) (not-false _ (c .before .before .before .before .before .before .before .before .before .before .before .before .before .before .before .if1 .left)) _ _ (c .before .before .before .before .before .before .before .before .occurrences .ensures) (c .before .before .best-candidate .ensures) _ (c .is-base .ensures)
 
 pub next-choice-spec : {M : Type 1} → statement M
 next-choice-spec =
@@ -99,6 +96,5 @@ next-choice-spec =
     shared-slice-read-best-candidate
     best-candidate-requires
     slice-aggregate-is-base
-    slice-aggregate-is-base-2
     is-base-requires
     returns-2)
