@@ -56,16 +56,16 @@ pub fn begin(t: &mut [u64], m: &mut [u64], roots: &mut [u64], tables: &mut [u64]
 }
 
 fn count_lowering(t: &mut [u64], answer: &[u8]) {
-    let main = number(answer, 2, 4);
-    let aux = number(answer, 6, 4);
+    let main = number(answer, 2, 2);
+    let aux = number(answer, 6, 2);
     add(t, LOWERINGS, 1);
     add(t, SUBSTITUTIONS, std::num::wrapping_add_u64(main, aux));
 }
 
 // What a frame says of the circuit: 00 its rows, and 0a that it was lowered.
 fn note(t: &mut [u64], frame: &[u8], answer: &[u8]) {
-    match number(frame, 0, 2) {
-        0 => put(t, ROWS, number(frame, 2, 2)),
+    match number(frame, 0, 1) {
+        0 => put(t, ROWS, number(frame, 2, 1)),
         10 => count_lowering(t, answer),
         _ => {}
     }
@@ -88,7 +88,7 @@ fn read_ids(list: &mut [u64], text: &[u8], n: u64) {
     let mut at: usize = 0;
     let mut k: u64 = 0;
     while k < n {
-        put(list, k as usize, number(text, at, 4));
+        put(list, k as usize, number(text, at, 2));
         at = std::num::wrapping_add_usize(at, 4);
         k += 1;
     }
@@ -107,8 +107,10 @@ fn keep_sum(t: &mut [u64], said: Answer) {
 // A sum is answered.
 pub fn summed(t: &mut [u64], m: &mut [u64], line: &[u8]) {
     let mut ids = [0u64; 256];
-    let n = number(line, 1, 2);
-    read_ids(&mut ids, after(line, 3), n);
+    let n = number(line, 1, 1);
+    let text = after(line, 3);
+    must(t, (text.len() / 4) as u64 == n);
+    read_ids(&mut ids, text, n);
     keep_sum(t, sum(m, part(&ids, 0, n as usize)));
     turn(t, CALLED, 0, SUM);
     add(t, SUMS, 1);
@@ -117,8 +119,8 @@ pub fn summed(t: &mut [u64], m: &mut [u64], line: &[u8]) {
 fn compare_sum(t: &mut [u64], line: &[u8]) {
     let refusal = get(t, NUMBER);
     let i = get(t, ID);
-    compare(t, refusal, number(line, 1, 2));
-    compare(t, i, number(line, 3, 4));
+    compare(t, refusal, number(line, 1, 1));
+    compare(t, i, number(line, 3, 2));
     must(t, line.len() == 7);
 }
 

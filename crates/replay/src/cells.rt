@@ -22,22 +22,22 @@ pub const TABLES: usize = 2816;
 fn put_triple(tables: &mut [u64], at: usize, text: &[u8])
     requires { ⌜ at < 4096 ⌝ }
 {
-    put(tables, at, number(text, 0, 16));
-    put(tables, at + 1, number(text, 16, 16));
-    put(tables, at + 2, number(text, 32, 16));
+    put(tables, at, number(text, 0, 8));
+    put(tables, at + 1, number(text, 16, 8));
+    put(tables, at + 2, number(text, 32, 8));
 }
 
 // A cell: its kind, its column or number, its value.
 pub fn cell(t: &mut [u64], tables: &mut [u64], line: &[u8]) {
-    let index = number(line, 3, 4);
+    let index = number(line, 3, 2);
     must(t, index < 256);
     let i = (index % 256) as usize;
     let value = after(line, 7);
-    match number(line, 1, 2) {
+    match number(line, 1, 1) {
         2 => put_triple(tables, CHALLENGES + 3 * i, value),
-        5 => put(tables, MAIN + i, number(value, 0, 16)),
+        5 => put(tables, MAIN + i, number(value, 0, 8)),
         6 => put_triple(tables, AUX + 3 * i, value),
-        7 => put(tables, NEXT_MAIN + i, number(value, 0, 16)),
+        7 => put(tables, NEXT_MAIN + i, number(value, 0, 8)),
         _ => put_triple(tables, NEXT_AUX + 3 * i, value),
     }
 }

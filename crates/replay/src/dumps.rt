@@ -50,7 +50,7 @@ fn forget(t: &mut [u64]) {
 
 // What a dump says of itself: how many are registered, and whether nodes have values.
 fn keep(t: &mut [u64], line: &[u8]) {
-    put(t, SAID, number(line, 5, 4));
+    put(t, SAID, number(line, 5, 2));
     put(t, VALUED, flag(byte_at(line, 11) == b'v'));
 }
 
@@ -64,8 +64,8 @@ pub fn head(t: &mut [u64], m: &[u64], roots: &[u64], line: &[u8]) {
 
 fn compare_head(t: &mut [u64], m: &[u64], roots: &[u64], line: &[u8]) {
     turn(t, STAGE, 0, 1);
-    compare_count(t, calls::used(m), number(line, 1, 4));
-    compare(t, listed(roots).len() as u64, number(line, 9, 2));
+    compare_count(t, calls::used(m), number(line, 1, 2));
+    compare(t, listed(roots).len() as u64, number(line, 9, 1));
 }
 
 // Writes 0, 1, 2 and so on.
@@ -95,7 +95,7 @@ fn compare_whole(t: &mut [u64], m: &[u64]) {
 pub fn roots_of(t: &mut [u64], m: &[u64], roots: &[u64], line: &[u8]) {
     turn(t, STAGE, 1, 2);
     compare_whole(t, m);
-    compare_list(t, listed(roots), after(line, 1), 4);
+    compare_list(t, listed(roots), after(line, 1), 2);
 }
 
 // The sum of a walk: what README.md of the vectors says.
@@ -112,7 +112,7 @@ fn walk_sum(ids: &[u64]) -> u64 {
 // The root at the place that a record of this stage names, which comes in the list's order.
 fn root_at(t: &mut [u64], stage: u64, roots: &[u64], line: &[u8]) -> u64 {
     turn(t, STAGE, stage, stage);
-    let place = number(line, 1, 2);
+    let place = number(line, 1, 1);
     turn(t, PLACE, place, std::num::wrapping_add_u64(place, 1));
     get(listed(roots), place as usize)
 }
@@ -126,11 +126,11 @@ pub fn walked(t: &mut [u64], m: &[u64], roots: &[u64], list: &mut [u64], line: &
         Count::Found(n) => {
             let ids = part(list, 0, n as usize);
             if byte_at(line, 0) == b'w' {
-                compare(t, n, number(line, 3, 4));
-                compare_list(t, ids, after(line, 7), 4);
+                compare(t, n, number(line, 3, 2));
+                compare_list(t, ids, after(line, 7), 2);
             } else {
-                compare(t, n, number(line, 3, 8));
-                compare(t, walk_sum(ids), number(line, 11, 16));
+                compare(t, n, number(line, 3, 4));
+                compare(t, walk_sum(ids), number(line, 11, 8));
             }
         }
         Count::Refused(_) => put(t, WRONG, 1),
@@ -144,8 +144,8 @@ pub fn counted(t: &mut [u64], m: &mut [u64], roots: &[u64], line: &[u8]) {
     put(t, COUNTED, 0);
     let r = count_references(m, listed(roots));
     match r {
-        paths::Counted::Written => compare(t, 0, number(line, 1, 2)),
-        paths::Counted::Refused(n) => compare(t, n, number(line, 1, 2)),
+        paths::Counted::Written => compare(t, 0, number(line, 1, 1)),
+        paths::Counted::Refused(n) => compare(t, n, number(line, 1, 1)),
     }
 }
 
@@ -164,9 +164,9 @@ fn rise(t: &mut [u64], i: u64) {
 }
 
 fn compare_pair(t: &mut [u64], m: &[u64], pair: &[u8]) {
-    let i = number(pair, 0, 4);
+    let i = number(pair, 0, 2);
     rise(t, i);
-    compare_references(t, calls::read(m, i), number(pair, 4, 8));
+    compare_references(t, calls::read(m, i), number(pair, 4, 4));
 }
 
 fn compare_pairs(t: &mut [u64], m: &[u64], text: &[u8]) {
@@ -191,8 +191,8 @@ pub fn distinct(t: &mut [u64], m: &[u64], roots: &[u64], line: &[u8]) {
     let r = distinct_counts(m, root, &mut list);
     match r {
         Count::Found(n) => {
-            compare(t, n, number(line, 3, 4));
-            compare_list(t, part(&list, 0, n as usize), after(line, 7), 8);
+            compare(t, n, number(line, 3, 2));
+            compare_list(t, part(&list, 0, n as usize), after(line, 7), 4);
         }
         Count::Refused(_) => put(t, WRONG, 1),
     }
@@ -201,13 +201,13 @@ pub fn distinct(t: &mut [u64], m: &[u64], roots: &[u64], line: &[u8]) {
 // The highest degree of the roots, and one more.
 pub fn highest_of(t: &mut [u64], m: &[u64], roots: &[u64], line: &[u8]) {
     turn(t, STAGE, 2, 3);
-    compare_degree(t, highest(m, listed(roots)), number(line, 1, 8));
+    compare_degree(t, highest(m, listed(roots)), number(line, 1, 4));
 }
 
 // The visible nodes of the roots.
 pub fn visible_of(t: &mut [u64], m: &[u64], roots: &[u64], line: &[u8]) {
     turn(t, STAGE, 3, 4);
-    compare_count(t, visible(m, listed(roots)), number(line, 1, 4));
+    compare_count(t, visible(m, listed(roots)), number(line, 1, 2));
 }
 
 // A dump ends: where counts were accepted, each root's distinct ones have come.

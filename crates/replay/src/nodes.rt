@@ -23,6 +23,7 @@ use crate::tally::part;
 use crate::tally::put;
 use crate::tally::turn;
 use crate::text::after;
+use crate::text::byte_at;
 use crate::text::code_at;
 use crate::text::number;
 use crate::text::triple;
@@ -57,30 +58,30 @@ fn width(kind: u64) -> usize {
 
 // An expression in digits: its kind and three words, those that its kind doesn't name 0.
 fn expression_in(text: &[u8]) -> FourWords {
-    let kind = number(text, 0, 2);
+    let kind = number(text, 0, 1);
     let at: usize = 2;
     match kind {
         0 => FourWords {
             kind: 0,
-            first: number(text, at, 16),
+            first: number(text, at, 8),
             second: 0,
             third: 0,
         },
         1 => FourWords {
             kind: 1,
-            first: number(text, at, 16),
-            second: number(text, at + 16, 16),
-            third: number(text, at + 32, 16),
+            first: number(text, at, 8),
+            second: number(text, at + 16, 8),
+            third: number(text, at + 32, 8),
         },
         3 | 4 => FourWords {
             kind: kind,
-            first: number(text, at, 4),
-            second: number(text, at + 4, 4),
+            first: number(text, at, 2),
+            second: number(text, at + 4, 2),
             third: 0,
         },
         _ => FourWords {
             kind: kind,
-            first: number(text, at, 4),
+            first: number(text, at, 2),
             second: 0,
             third: 0,
         },
@@ -146,24 +147,29 @@ pub fn compare_degree(t: &mut [u64], d: Degree, want: u64) {
     }
 }
 
+// A test as it is written.
+fn written(yes: bool) -> u8 {
+    if yes { b'1' } else { b'0' }
+}
+
 fn compare_test(t: &mut [u64], r: Test, want: u64) {
     match r {
-        Test::Answer(yes) => compare(t, flag(yes), want),
+        Test::Answer(yes) => compare(t, written(yes) as u64, want),
         Test::Refused(_) => put(t, WRONG, 1),
     }
 }
 
 // The tests for 0, 1 and -1.
 fn compare_constants(t: &mut [u64], m: &[u64], i: u64, text: &[u8]) {
-    compare_test(t, is_zero(m, i), number(text, 0, 1));
-    compare_test(t, is_one(m, i), number(text, 1, 1));
-    compare_test(t, is_minus_one(m, i), number(text, 2, 1));
+    compare_test(t, is_zero(m, i), code_at(text, 0));
+    compare_test(t, is_one(m, i), code_at(text, 1));
+    compare_test(t, is_minus_one(m, i), code_at(text, 2));
 }
 
 // The degree and the four tests, from the degree on.
 fn compare_tests(t: &mut [u64], m: &[u64], i: u64, text: &[u8]) {
-    compare_degree(t, degree(m, i), number(text, 0, 8));
-    compare_test(t, base_test(m, i), number(text, 8, 1));
+    compare_degree(t, degree(m, i), number(text, 0, 4));
+    compare_test(t, base_test(m, i), code_at(text, 8));
     compare_constants(t, m, i, after(text, 9));
 }
 
@@ -188,12 +194,12 @@ fn compare_class(t: &mut [u64], m: &[u64], i: u64, class: u64) {
 }
 
 // The value: a word where the base test says yes, else a triple.
-fn compare_value(t: &mut [u64], v: Value, base: u64, text: &[u8]) {
+fn compare_value(t: &mut [u64], v: Value, base: bool, text: &[u8]) {
     match v {
         Value::Found(x) => {
-            if base == 1 {
+            if base {
                 must(t, text.len() == 16);
-                compare_triple(t, x, lift(number(text, 0, 16)));
+                compare_triple(t, x, lift(number(text, 0, 8)));
             } else {
                 must(t, text.len() == 48);
                 compare_triple(t, x, triple(text, 0));
@@ -234,10 +240,10 @@ fn count_node(t: &mut [u64], i: u64) {
 // From the degree on: degree, tests, class, value.
 fn compare_readings(t: &mut [u64], m: &[u64], i: u64, tables: &[u64], text: &[u8]) {
     compare_tests(t, m, i, text);
-    compare_class(t, m, i, number(text, 12, 4));
+    compare_class(t, m, i, number(text, 12, 2));
     if get(t, VALUED) == 1 {
         let v = value_of(m, i, get(t, ROWS), tables);
-        compare_value(t, v, number(text, 8, 1), after(text, 16));
+        compare_value(t, v, byte_at(text, 8) == b'1', after(text, 16));
     } else {
         must(t, text.len() == 16);
     }
@@ -245,9 +251,9 @@ fn compare_readings(t: &mut [u64], m: &[u64], i: u64, tables: &[u64], text: &[u8
 
 // A node: id, mark, kind and expression, readings.
 pub fn node(t: &mut [u64], m: &[u64], tables: &[u64], line: &[u8]) {
-    let i = number(line, 1, 4);
+    let i = number(line, 1, 2);
     count_node(t, i);
     compare_read(t, m, i, after(line, 5));
-    let text = after(after(line, 8), width(number(line, 6, 2)));
+    let text = after(after(line, 8), width(number(line, 6, 1)));
     compare_readings(t, m, i, tables, text);
 }

@@ -3,13 +3,16 @@ use crate::calls;
 use crate::cells::cell;
 use crate::dumps;
 use crate::nodes::node;
+use crate::tally::CALLED;
 use crate::tally::DIFFER;
 use crate::tally::LINE;
+use crate::tally::STAGE;
 use crate::tally::WRONG;
 use crate::tally::add;
 use crate::tally::compare_totals;
 use crate::tally::get;
 use crate::tally::put;
+use crate::tally::turn;
 use crate::text::byte_at;
 
 // A record of a dump that is no node.
@@ -26,6 +29,13 @@ fn of_dump(t: &mut [u64], m: &mut [u64], roots: &[u64], list: &mut [u64], line: 
         b'e' => dumps::end(t, roots),
         _ => put(t, WRONG, 1),
     }
+}
+
+// A file's last record: no call waits for its answer, and no dump for its end.
+fn last(t: &mut [u64], line: &[u8]) {
+    turn(t, CALLED, 0, 0);
+    turn(t, STAGE, 0, 0);
+    compare_totals(t, line);
 }
 
 // Any record.
@@ -46,7 +56,7 @@ fn replayed(
         b'<' => calls::answered(t, answer, line),
         b't' => cell(t, tables, line),
         b'n' => node(t, m, tables, line),
-        b'.' => compare_totals(t, line),
+        b'.' => last(t, line),
         _ => of_dump(t, m, roots, list, line),
     }
 }

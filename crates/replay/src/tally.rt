@@ -1,5 +1,6 @@
 // What was counted so far, in lent words, by these places.
 use crate::text::number;
+ghost use Prim.Native.Nat.{_≤_};
 
 // As in a file's last record: circuits, frames, sums, lowerings, substitutions, dumps, nodes.
 pub const CIRCUITS: usize = 0;
@@ -128,13 +129,16 @@ pub fn turn(t: &mut [u64], i: usize, from: u64, to: u64) {
     put(t, i, to);
 }
 
-// Compares words with the numbers of so many digits that are all of a text.
-pub fn compare_list(t: &mut [u64], words: &[u64], text: &[u8], digits: usize) {
+// Compares words with the numbers of so many bytes that are all of a text.
+pub fn compare_list(t: &mut [u64], words: &[u64], text: &[u8], size: usize)
+    requires { ⌜ size ≤ 8 ⌝ }
+{
+    let width = 2 * size;
     let mut at: usize = 0;
     let mut k: usize = 0;
     while k < words.len() {
-        compare(t, words[k], number(text, at, digits));
-        at = std::num::wrapping_add_usize(at, digits);
+        compare(t, words[k], number(text, at, size));
+        at = std::num::wrapping_add_usize(at, width);
         k += 1;
     }
     compare(t, at as u64, text.len() as u64);
@@ -146,7 +150,7 @@ pub fn compare_totals(t: &mut [u64], line: &[u8]) {
     let mut at: usize = 1;
     while k < COMPARED {
         let counted = get(t, k);
-        compare(t, counted, number(line, at, 8));
+        compare(t, counted, number(line, at, 4));
         at = std::num::wrapping_add_usize(at, 8);
         k += 1;
     }

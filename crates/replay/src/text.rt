@@ -1,9 +1,15 @@
-// A line's characters and numbers. Beyond its end nothing stands: a character there is 0, and a number there has fewer digits.
+// A line's characters and numbers. Nothing stands beyond its end: a character there is 0, and so is a digit.
 use field::extension::Triple;
-ghost use Prim.Native.Nat.{_<_};
+use frame::digits;
+ghost use mathlib.Core.Path.{_≡_};
+ghost use Prim.Native.Nat.{_≤_};
+ghost use lib.ListN.{drop, getD};
+ghost use Rattle.frame.specs.Digits.{bytesOf, numberAt};
 
 // Character i of a line.
-pub fn byte_at(s: &[u8], i: usize) -> u8 {
+pub fn byte_at(s: &[u8], i: usize) -> u8
+    ensures { λ r. ⌜ r ≡ getD (now (s .entry)) i 0 ⌝ }
+{
     if i < s.len() {
         return s[i];
     }
@@ -11,20 +17,24 @@ pub fn byte_at(s: &[u8], i: usize) -> u8 {
 }
 
 // The same as a number.
-pub fn code_at(s: &[u8], i: usize) -> u64 {
+pub fn code_at(s: &[u8], i: usize) -> u64
+    ensures { λ r. ⌜ r ≡ getD (now (s .entry)) i 0 ⌝ }
+{
     let c = byte_at(s, i);
     c as u64
 }
 
 // What follows the first n characters.
-pub fn after(s: &[u8], n: usize) -> &[u8] {
+pub fn after(s: &[u8], n: usize) -> &[u8]
+    ensures { λ r. ⌜ now r ≡ drop n (now (s .entry)) ⌝ }
+{
     if n <= s.len() {
         return &s[n..];
     }
     &s[..0]
 }
 
-// The first n characters.
+// The first n characters; none where there are fewer.
 pub fn before(s: &[u8], n: usize) -> &[u8] {
     if n <= s.len() {
         return &s[0..n];
@@ -32,39 +42,20 @@ pub fn before(s: &[u8], n: usize) -> &[u8] {
     &s[..0]
 }
 
-// The value of a lower-case hexadecimal digit.
-fn digit(c: u8) -> u64
-    ensures { λ r. ⌜ r < 16 ⌝ }
+// The number of so many bytes, two digits each, that begin at `at`.
+pub fn number(s: &[u8], at: usize, size: usize) -> u64
+    requires { ⌜ size ≤ 8 ⌝ }
+    ensures { λ r. ⌜ r ≡ numberAt size 0 (bytesOf (drop at (now (s .entry)))) ⌝ }
 {
-    match c {
-        b'0'..=b'9' => (c - b'0') as u64,
-        b'a'..=b'f' => (c - b'a') as u64 + 10,
-        _ => 0,
-    }
-}
-
-// The number in the first so many digits, the most significant first.
-fn leading(s: &[u8], digits: usize) -> u64 {
-    let mut n: u64 = 0;
-    let mut k: usize = 0;
-    while k < digits {
-        n = (n % 0x1000_0000_0000_0000) * 16 + digit(byte_at(s, k));
-        k += 1;
-    }
-    n
-}
-
-// The number in so many digits from `at` on.
-pub fn number(s: &[u8], at: usize, digits: usize) -> u64 {
-    leading(after(s, at), digits)
+    digits::number(after(s, at), size, 0)
 }
 
 // The three words from `at` on.
 pub fn triple(s: &[u8], at: usize) -> Triple {
     let rest = after(s, at);
     Triple {
-        c0: number(rest, 0, 16),
-        c1: number(rest, 16, 16),
-        c2: number(rest, 32, 16),
+        c0: number(rest, 0, 8),
+        c1: number(rest, 16, 8),
+        c2: number(rest, 32, 8),
     }
 }

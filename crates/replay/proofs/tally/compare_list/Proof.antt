@@ -7,10 +7,13 @@ use Rattle.replay.proofs.tally.compare_list.Statement.{statement}
 use Rattle.replay.proofs.tally.compare_list.Tie as tie
 
 abbrev Inv-loop : tie.InvT-loop
-Inv-loop t₀ words text digits at₀ k₀ t at k = (k ≤ length words) × (length t ≡ length t₀)
+Inv-loop t₀ words text size width at₀ k₀ t at k = (k ≤ length words) × (length t ≡ length t₀)
 
 abbrev μ-loop : tie.MeasureT-loop
-μ-loop t₀ words text digits at₀ k₀ t at k = length words - k
+μ-loop t₀ words text size width at₀ k₀ t at k = length words - k
+
+mul-width : tie.Need-mul-width Inv-loop μ-loop
+mul-width c = search needs
 
 loop-holds : tie.Need-loop-holds Inv-loop μ-loop
 loop-holds c = search needs
@@ -54,6 +57,7 @@ compare-list-spec =
     (tie.spec
     Inv-loop
     μ-loop
+    mul-width
     loop-holds
     mul-compare
     shared-slice-read-compare
