@@ -134,7 +134,7 @@ def replayed(program, theme, first, count):
         with open(f"{folder}/{theme}.txt", "w") as file:
             subprocess.run(command, check=True, stdout=file)
         done = subprocess.run([program, f"{theme}.txt"], cwd=folder, capture_output=True, text=True)
-        if done.returncode or "0 differ" not in done.stdout:
+        if done.returncode or ", 0 differ" not in done.stdout:
             print(done.stdout + done.stderr)
             print(f"{theme} {first}..{first + count - 1}: replay disagrees")
             sys.exit(1)

@@ -32,7 +32,7 @@ const FRAME: u64 = 1;
 const SUM: u64 = 2;
 
 // The roots, which stand behind their number.
-pub fn listed(roots: &[u64]) -> &[u64] {
+pub(crate) fn listed(roots: &[u64]) -> &[u64] {
     let n = std::num::wrapping_add_u64(get(roots, 0), 1);
     part(roots, 1, n as usize)
 }
@@ -46,7 +46,7 @@ fn clear(list: &mut [u64]) {
 }
 
 // A circuit begins: what was is forgotten. Until it starts, its row kind is 0.
-pub fn begin(t: &mut [u64], m: &mut [u64], roots: &mut [u64], tables: &mut [u64]) {
+pub(crate) fn begin(t: &mut [u64], m: &mut [u64], roots: &mut [u64], tables: &mut [u64]) {
     turn(t, STAGE, 0, 0);
     turn(t, CALLED, 0, 0);
     add(t, CIRCUITS, 1);
@@ -72,7 +72,13 @@ fn note(t: &mut [u64], frame: &[u8], answer: &[u8]) {
 }
 
 // A frame is answered.
-pub fn call(t: &mut [u64], m: &mut [u64], roots: &mut [u64], answer: &mut [u8], line: &[u8]) {
+pub(crate) fn call(
+    t: &mut [u64],
+    m: &mut [u64],
+    roots: &mut [u64],
+    answer: &mut [u8],
+    line: &[u8],
+) {
     let mut main = [0u64; 512];
     let mut aux = [0u64; 512];
     let request = after(line, 1);
@@ -105,7 +111,7 @@ fn keep_sum(t: &mut [u64], said: Answer) {
 }
 
 // A sum is answered.
-pub fn summed(t: &mut [u64], m: &mut [u64], line: &[u8]) {
+pub(crate) fn summed(t: &mut [u64], m: &mut [u64], line: &[u8]) {
     let mut ids = [0u64; 256];
     let n = number(line, 1, 1);
     let text = after(line, 3);
@@ -132,7 +138,7 @@ fn compare_answer(t: &mut [u64], answer: &[u8], line: &[u8]) {
 }
 
 // The answer to the call before it.
-pub fn answered(t: &mut [u64], answer: &[u8], line: &[u8]) {
+pub(crate) fn answered(t: &mut [u64], answer: &[u8], line: &[u8]) {
     let called = get(t, CALLED);
     put(t, CALLED, 0);
     match called {

@@ -6,17 +6,17 @@ use crate::text::after;
 use crate::text::number;
 ghost use Prim.Native.Nat.{_<_};
 
-pub const MAIN: usize = 0;
+pub(crate) const MAIN: usize = 0;
 
-pub const NEXT_MAIN: usize = 256;
+pub(crate) const NEXT_MAIN: usize = 256;
 
-pub const AUX: usize = 512;
+pub(crate) const AUX: usize = 512;
 
-pub const NEXT_AUX: usize = 1280;
+pub(crate) const NEXT_AUX: usize = 1280;
 
-pub const CHALLENGES: usize = 2048;
+pub(crate) const CHALLENGES: usize = 2048;
 
-pub const TABLES: usize = 2816;
+pub(crate) const TABLES: usize = 2816;
 
 // Three words from `at` on.
 fn put_triple(tables: &mut [u64], at: usize, text: &[u8])
@@ -28,7 +28,7 @@ fn put_triple(tables: &mut [u64], at: usize, text: &[u8])
 }
 
 // A cell: its kind, its column or number, its value.
-pub fn cell(t: &mut [u64], tables: &mut [u64], line: &[u8]) {
+pub(crate) fn cell(t: &mut [u64], tables: &mut [u64], line: &[u8]) {
     let index = number(line, 3, 2);
     must(t, index < 256);
     let i = (index % 256) as usize;

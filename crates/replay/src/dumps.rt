@@ -55,7 +55,7 @@ fn keep(t: &mut [u64], line: &[u8]) {
 }
 
 // A dump begins: the used count, and the number of roots.
-pub fn head(t: &mut [u64], m: &[u64], roots: &[u64], line: &[u8]) {
+pub(crate) fn head(t: &mut [u64], m: &[u64], roots: &[u64], line: &[u8]) {
     add(t, DUMPS, 1);
     forget(t);
     keep(t, line);
@@ -92,7 +92,7 @@ fn compare_whole(t: &mut [u64], m: &[u64]) {
 }
 
 // The root list in its order.
-pub fn roots_of(t: &mut [u64], m: &[u64], roots: &[u64], line: &[u8]) {
+pub(crate) fn roots_of(t: &mut [u64], m: &[u64], roots: &[u64], line: &[u8]) {
     turn(t, STAGE, 1, 2);
     compare_whole(t, m);
     compare_list(t, listed(roots), after(line, 1), 2);
@@ -118,7 +118,7 @@ fn root_at(t: &mut [u64], stage: u64, roots: &[u64], line: &[u8]) -> u64 {
 }
 
 // The walk of a root, written out or as its length and sum.
-pub fn walked(t: &mut [u64], m: &[u64], roots: &[u64], list: &mut [u64], line: &[u8]) {
+pub(crate) fn walked(t: &mut [u64], m: &[u64], roots: &[u64], list: &mut [u64], line: &[u8]) {
     let root = [root_at(t, 4, roots, line)];
     let mut stack = [0u64; 512];
     let r = walk(m, &root, list, &mut stack);
@@ -138,7 +138,7 @@ pub fn walked(t: &mut [u64], m: &[u64], roots: &[u64], list: &mut [u64], line: &
 }
 
 // Reference counts are accepted, or refused by this number. All walks have come.
-pub fn counted(t: &mut [u64], m: &mut [u64], roots: &[u64], line: &[u8]) {
+pub(crate) fn counted(t: &mut [u64], m: &mut [u64], roots: &[u64], line: &[u8]) {
     turn(t, STAGE, 4, 5);
     turn(t, PLACE, listed(roots).len() as u64, 0);
     put(t, COUNTED, 0);
@@ -179,13 +179,13 @@ fn compare_pairs(t: &mut [u64], m: &[u64], text: &[u8]) {
 }
 
 // Ids and their reference counts.
-pub fn pairs(t: &mut [u64], m: &[u64], line: &[u8]) {
+pub(crate) fn pairs(t: &mut [u64], m: &[u64], line: &[u8]) {
     turn(t, STAGE, 5, 5);
     compare_pairs(t, m, after(line, 1));
 }
 
 // The sorted distinct counts below a root.
-pub fn distinct(t: &mut [u64], m: &[u64], roots: &[u64], line: &[u8]) {
+pub(crate) fn distinct(t: &mut [u64], m: &[u64], roots: &[u64], line: &[u8]) {
     let root = root_at(t, 5, roots, line);
     let mut list = [0u64; 512];
     let r = distinct_counts(m, root, &mut list);
@@ -199,19 +199,19 @@ pub fn distinct(t: &mut [u64], m: &[u64], roots: &[u64], line: &[u8]) {
 }
 
 // The highest degree of the roots, and one more.
-pub fn highest_of(t: &mut [u64], m: &[u64], roots: &[u64], line: &[u8]) {
+pub(crate) fn highest_of(t: &mut [u64], m: &[u64], roots: &[u64], line: &[u8]) {
     turn(t, STAGE, 2, 3);
     compare_degree(t, highest(m, listed(roots)), number(line, 1, 4));
 }
 
 // The visible nodes of the roots.
-pub fn visible_of(t: &mut [u64], m: &[u64], roots: &[u64], line: &[u8]) {
+pub(crate) fn visible_of(t: &mut [u64], m: &[u64], roots: &[u64], line: &[u8]) {
     turn(t, STAGE, 3, 4);
     compare_count(t, visible(m, listed(roots)), number(line, 1, 2));
 }
 
 // A dump ends: where counts were accepted, each root's distinct ones have come.
-pub fn end(t: &mut [u64], roots: &[u64]) {
+pub(crate) fn end(t: &mut [u64], roots: &[u64]) {
     turn(t, STAGE, 5, 0);
     if get(t, COUNTED) != 0 {
         turn(t, PLACE, listed(roots).len() as u64, 0);

@@ -79,7 +79,7 @@ fn left(turns: u64, ended: bool) -> u64
 }
 
 // All lines of a file. A proved loop has to end, and nothing says that the file does.
-pub fn replay(
+pub(crate) fn replay(
     fd: i32,
     part: &mut [u8],
     t: &mut [u64],

@@ -140,7 +140,7 @@ fn below(n: u64) -> i64 {
 }
 
 // A degree, which is written as one more.
-pub fn compare_degree(t: &mut [u64], d: Degree, want: u64) {
+pub(crate) fn compare_degree(t: &mut [u64], d: Degree, want: u64) {
     match d {
         Degree::Found(d) => compare(t, flag(d == below(want)), 1),
         Degree::Refused(_) => put(t, WRONG, 1),
@@ -250,7 +250,7 @@ fn compare_readings(t: &mut [u64], m: &[u64], i: u64, tables: &[u64], text: &[u8
 }
 
 // A node: id, mark, kind and expression, readings.
-pub fn node(t: &mut [u64], m: &[u64], tables: &[u64], line: &[u8]) {
+pub(crate) fn node(t: &mut [u64], m: &[u64], tables: &[u64], line: &[u8]) {
     let i = number(line, 1, 2);
     count_node(t, i);
     compare_read(t, m, i, after(line, 5));

@@ -72,7 +72,7 @@ fn judge(t: &mut [u64]) {
     }
 }
 
-pub fn record(
+pub(crate) fn record(
     t: &mut [u64],
     m: &mut [u64],
     roots: &mut [u64],

@@ -7,7 +7,7 @@ ghost use lib.ListN.{drop, getD};
 ghost use Rattle.frame.specs.Digits.{bytesOf, numberAt};
 
 // Character i of a line.
-pub fn byte_at(s: &[u8], i: usize) -> u8
+pub(crate) fn byte_at(s: &[u8], i: usize) -> u8
     ensures { λ r. ⌜ r ≡ getD (now (s .entry)) i 0 ⌝ }
 {
     if i < s.len() {
@@ -17,7 +17,7 @@ pub fn byte_at(s: &[u8], i: usize) -> u8
 }
 
 // The same as a number.
-pub fn code_at(s: &[u8], i: usize) -> u64
+pub(crate) fn code_at(s: &[u8], i: usize) -> u64
     ensures { λ r. ⌜ r ≡ getD (now (s .entry)) i 0 ⌝ }
 {
     let c = byte_at(s, i);
@@ -25,7 +25,7 @@ pub fn code_at(s: &[u8], i: usize) -> u64
 }
 
 // What follows the first n characters.
-pub fn after(s: &[u8], n: usize) -> &[u8]
+pub(crate) fn after(s: &[u8], n: usize) -> &[u8]
     ensures { λ r. ⌜ now r ≡ drop n (now (s .entry)) ⌝ }
 {
     if n <= s.len() {
@@ -35,7 +35,7 @@ pub fn after(s: &[u8], n: usize) -> &[u8]
 }
 
 // The first n characters; none where there are fewer.
-pub fn before(s: &[u8], n: usize) -> &[u8] {
+pub(crate) fn before(s: &[u8], n: usize) -> &[u8] {
     if n <= s.len() {
         return &s[0..n];
     }
@@ -43,7 +43,7 @@ pub fn before(s: &[u8], n: usize) -> &[u8] {
 }
 
 // The number of so many bytes, two digits each, that begin at `at`.
-pub fn number(s: &[u8], at: usize, size: usize) -> u64
+pub(crate) fn number(s: &[u8], at: usize, size: usize) -> u64
     requires { ⌜ size ≤ 8 ⌝ }
     ensures { λ r. ⌜ r ≡ numberAt size 0 (bytesOf (drop at (now (s .entry)))) ⌝ }
 {
@@ -51,7 +51,7 @@ pub fn number(s: &[u8], at: usize, size: usize) -> u64
 }
 
 // The three words from `at` on.
-pub fn triple(s: &[u8], at: usize) -> Triple {
+pub(crate) fn triple(s: &[u8], at: usize) -> Triple {
     let rest = after(s, at);
     Triple {
         c0: number(rest, 0, 8),
