@@ -565,7 +565,9 @@ def main(paths):
 
 def frames():
     program = Program()
-    for line in sys.stdin.buffer.read().decode("latin-1").removesuffix("\n").split("\n"):
+    lines = sys.stdin.buffer.read().decode("latin-1").split("\n")
+    # What follows the last line feed is a line only if it isn't empty.
+    for line in lines if lines[-1] else lines[:-1]:
         print(program.answer(line))
 
 

@@ -47,7 +47,7 @@ done
 for circuit in "products 1865 8" "selectors 1910 12"; do
     for span in span_evaluate_rust span_evaluate_ours; do count $span $circuit; done
 done
-for circuit in "products 1500 8" "selectors 1300 12"; do
+for circuit in "products 1500 8" "selectors 1200 12"; do
     for target in 2 3 4 5; do
         for span in span_lower_rust span_lower_ours; do count $span=$target $circuit; done
     done

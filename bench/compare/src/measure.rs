@@ -124,7 +124,7 @@ pub fn measure(only: Option<&str>) {
     if wants("lower") {
         for (shape, sizes, targets) in [
             ("products", &[250, 500, 1000, 1500][..], &[2, 3, 4, 5][..]),
-            ("selectors", &[250, 500, 1000, 1300], &[2, 3, 4, 5]),
+            ("selectors", &[250, 500, 1000, 1200], &[2, 3, 4, 5]),
             ("tower", &[6, 8, 10, 12], &[2]),
             ("sums", &[6, 8, 10, 12], &[2]),
         ] {
