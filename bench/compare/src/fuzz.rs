@@ -215,8 +215,11 @@ fn grown(rng: &mut Rng, nodes: u64) -> Vec<u64> {
         atz_start(p, n, 1 + rng.below(2) as u64);
         // Some have a tower of squarings or doublings in them: high degrees, many paths.
         let tower = rng.below(20);
-        while *p.add(1) < nodes {
+        for _ in 0..20 * nodes {
             let used = *p.add(1);
+            if used >= nodes {
+                break;
+            }
             let refused = match rng.below(if used < 4 { 5 } else { 12 }) {
                 5.. if tower == 0 => atz_multiply(p, n, used - 1, used - 1, &mut out, 1),
                 5.. if tower == 1 && used > 7 => atz_add(p, n, used - 1, used - 1, &mut out, 1),
