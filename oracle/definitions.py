@@ -23,7 +23,7 @@ use Prim.Native.Nat.{ℕ}
 use mathlib.Core.List.{List, [], _∷_}
 use lib.Dec.{T}
 use Rattle.circuit.specs.Lists.{agree}
-use Rattle.frame.specs.Texts.{bytes, program, textsCompute}
+use Rattle.framing.specs.Texts.{bytes, program, textsCompute}
 
 """
 
@@ -75,7 +75,7 @@ def main():
                 open(os.path.join(crate, 'specs', name + '.antt'), 'w').write(HEAD + body)
         open(os.path.join(crate, 'specs', 'Lib.antt'), 'w').write(''.join(f'pub mod {m}\n' for m in modules))
         with open(os.path.join(repo, 'crates.txt'), 'a') as f:
-            f.write('frozen: frame lower build read paths circuit field\n')
+            f.write('frozen: framing circuit field\n')
         out = subprocess.run(['rt', 'check', 'frozen'], cwd=repo, capture_output=True, text=True)
         lines = [l for l in (out.stdout + out.stderr).split('\n') if 'error' in l or l.startswith('rt: ')]
         print('\n'.join(l[:300].replace(work, '') for l in lines))

@@ -9,9 +9,9 @@ trap 'rm -rf "$work"' EXIT
 
 # A repository of its own: the crates that are measured, and one that exports them.
 mkdir -p "$work/crates/pathsbench/src"
-cp -r "$repo/crates/field" "$repo/crates/circuit" "$repo/crates/paths" "$work/crates/"
+cp -r "$repo/crates/field" "$repo/crates/circuit" "$repo/crates/walking" "$repo/crates/paths" "$work/crates/"
 cp "$here/pathsbench.rt.txt" "$work/crates/pathsbench/src/lib.rt"
-printf 'field:\ncircuit: field\npaths: circuit field\npathsbench: paths circuit field\n' > "$work/crates.txt"
+printf 'field:\ncircuit: field\nwalking: circuit field\npaths: walking circuit field\npathsbench: paths walking circuit field\n' > "$work/crates.txt"
 (cd "$work" && rt staticlib pathsbench > log.txt 2>&1) || { tail -20 "$work/log.txt"; exit 1; }
 cc -O1 -g -o "$work/measure" "$here/measure.c" "$work/target/staticlib/libpathsbench.a" -lpthread
 

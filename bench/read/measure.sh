@@ -9,9 +9,9 @@ trap 'rm -rf "$work"' EXIT
 
 # A repository of its own: the crates that are measured, and one that exports them.
 mkdir -p "$work/crates/readbench/src"
-for crate in field circuit paths classes read; do cp -r "$repo/crates/$crate" "$work/crates/"; done
+for crate in field circuit walking reading paths classes read; do cp -r "$repo/crates/$crate" "$work/crates/"; done
 cp "$here/readbench.rt.txt" "$work/crates/readbench/src/lib.rt"
-printf 'field:\ncircuit: field\npaths: circuit field\nclasses: circuit field\nread: paths classes circuit field\nreadbench: read circuit field\n' > "$work/crates.txt"
+printf 'field:\ncircuit: field\nwalking: circuit field\nreading: walking circuit field\npaths: walking circuit field\nclasses: circuit field\nread: reading paths walking classes circuit field\nreadbench: read reading circuit field\n' > "$work/crates.txt"
 (cd "$work" && rt staticlib readbench > log.txt 2>&1) || { tail -20 "$work/log.txt"; exit 1; }
 cc -O1 -g -o "$work/measure" "$here/measure.c" "$work/target/staticlib/libreadbench.a" -lpthread
 

@@ -5,7 +5,7 @@ use crate::answers::equality;
 use crate::answers::test;
 use crate::answers::value;
 ghost use Rattle.classes.specs.Classes.{equalCall};
-ghost use Rattle.read.specs.Calls.{isZeroCall, isOneCall, isMinusOneCall, degreeCall, highestCall, baseTestCall, evaluateCall, visibleCall};
+ghost use Rattle.reading.specs.Calls.{isZeroCall, isOneCall, isMinusOneCall, degreeCall, highestCall, baseTestCall, evaluateCall, visibleCall};
 ghost use Rattle.abi.specs.Answers.{Answered, asNumber, asBit, asDegree, asTriple};
 
 // Whether two nodes are equal by structure.

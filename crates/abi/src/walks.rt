@@ -1,9 +1,9 @@
 // The walk and the reference counts: document 01, "Readings".
 use crate::answers::count;
-use paths::Counted;
 use paths::references;
 use paths::walk::walk;
-ghost use Rattle.paths.specs.Calls.{walkCall, countCall, countsCall};
+use walking::Counted;
+ghost use Rattle.walking.specs.Calls.{walkCall, countCall, countsCall};
 ghost use Rattle.abi.specs.Answers.{Answered, Done, asNumber};
 
 // The walk from each root after the other, into the list: how many ids.

@@ -4,10 +4,8 @@ use mathlib.Core.Path.{_≡_, refl, sym, ap, _∙_}
 use mathlib.Core.Bool.{Bool, true, false, _||_, not}
 use mathlib.Core.List.{List, [], _∷_, _++_}
 use native.Mathlib.Omega.{arith}
-use native.Mathlib.Numerals.{add-one}
 use lib.Dec.{leb}
-use lib.ListN.{length, getD, drop}
-use lib.Seq.{drop-cons}
+use lib.ListN.{length}
 use Rattle.circuit.specs.Lists.{any}
 use Rattle.circuit.specs.Words.{used}
 use Rattle.circuit.specs.NotCircuit.{notCircuit, badId}
@@ -15,7 +13,7 @@ use Rattle.circuit.specs.Rank.{Checked}
 use Rattle.circuit.specs.Outcomes.{refusal, numbered, outcome}
 use Rattle.circuit.specs.Answers.{refused}
 use Rattle.circuit.proofs.Valid.{valid-header, header-top}
-use Rattle.circuit.proofs.Refusals.{refusal-none, refusal-here, refusal-next, outcome-refused, outcome-accepted, accepts, no-bad-id, bad-id-here, bad-id-next}
+use Rattle.circuit.proofs.Refusals.{refusal-none, refusal-here, refusal-next, outcome-refused, outcome-accepted, accepts}
 use Rattle.classes.specs.Find.{Fillable}
 use Rattle.classes.specs.Numbers.{Sized}
 use Rattle.building.specs.declared.Answer.{Answer}
@@ -26,7 +24,6 @@ use Rattle.building.specs.Calls.{building}
 use Rattle.build.specs.Inner.{Stepped}
 use Rattle.building.specs.Told.{toldId}
 use Rattle.build_calls.specs.Answers.{answerOf, ending, Ranked}
-use Rattle.build.proofs.Runs.{drop-all}
 
 -- the tests of a call
 
@@ -84,14 +81,3 @@ one-twice m a = go (leb (used m) a)
     go : (b : Bool) → (b || (b || false)) ≡ (b || false)
     go true = refl
     go false = refl
-
-module _ (m ids : List ℕ) (k : ℕ) where
-  -- the loop over the ids: those before the k-th are nodes
-  pub bad-here : k < length ids → used m ≤ getD ids k 0 → badId m (drop k ids) ≡ badId m ids → true ≡ badId m ids
-  bad-here l h e = sym (bad-id-here m (getD ids k 0) (drop (suc k) ids) h) ∙ ap (badId m) (sym (drop-cons ids k 0 l)) ∙ e
-
-  pub bad-next : k < length ids → getD ids k 0 < used m → badId m (drop k ids) ≡ badId m ids → badId m (drop (k + 1) ids) ≡ badId m ids
-  bad-next l h e = rw add-one (sym (bad-id-next m (getD ids k 0) (drop (suc k) ids) h) ∙ ap (badId m) (sym (drop-cons ids k 0 l)) ∙ e)
-
-  pub bad-none : length ids ≤ k → badId m (drop k ids) ≡ badId m ids → false ≡ badId m ids
-  bad-none l e = sym (no-bad-id m) ∙ ap (badId m) (sym (drop-all k ids l)) ∙ e

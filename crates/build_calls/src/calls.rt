@@ -25,10 +25,10 @@ use circuit::refusal::NOT_CIRCUIT;
 use classes::find::class_tables;
 use classes::table::TABLE;
 use field::extension::Triple;
+use paths::ids::bad_id;
 ghost use mathlib.Core.Path.{_≡_};
 ghost use mathlib.Core.List.{List, [], _∷_};
-ghost use Prim.Native.Nat.{ℕ, _<_, _≤_};
-ghost use lib.ListN.{length};
+ghost use Prim.Native.Nat.{ℕ, _<_};
 ghost use Rattle.circuit.specs.Words.{used};
 ghost use Rattle.circuit.specs.NotCircuit.{badId};
 ghost use Rattle.building.specs.Building.{summed};
@@ -214,22 +214,6 @@ pub fn negate(m: &mut [u64], a: u64) -> Answer
     ensures { λ r. ⌜ toldId r (now (m .exit)) ≡ negateCall (now (m .entry)) a ⌝ }
 {
     on_nodes(m, a, a, Request::Negate(a))
-}
-
-// Whether one of the ids is none of a node.
-pub fn bad_id(m: &[u64], ids: &[u64]) -> bool
-    requires { ⌜ 2 ≤ length (now m) ⌝ }
-    ensures { λ r. ⌜ r ≡ badId (now (m .entry)) (now (ids .entry)) ⌝ }
-{
-    let n = m[1];
-    let mut k: usize = 0;
-    while k < ids.len() {
-        if n <= ids[k] {
-            return true;
-        }
-        k += 1;
-    }
-    false
 }
 
 // The sum of a list of ids, from the left.

@@ -66,7 +66,7 @@ fn find_leaf(m: &[u64], e: Expression) -> Place
 }
 
 // That one, else a new node, if there is a place for it.
-pub fn leaf(m: &mut [u64], e: Expression) -> Answer
+pub(crate) fn leaf(m: &mut [u64], e: Expression) -> Answer
     requires { ⌜ Leafy (now m) e ⌝ }
     ensures { λ r. ⌜ toldId r (now (m .exit)) ≡ ending (now (m .entry)) (findOrMake (now (m .entry)) e) ⌝ }
 {

@@ -12,7 +12,7 @@ use lib.Dec.{ltb, leb}
 use borrow.Author.Tests.{lt-ltb, le-ltb, le-leb, lt-leb, leb-true, leb-false}
 use Rattle.circuit.specs.Lists.{if_then_else_, all}
 use Rattle.circuit.proofs.Lists.{clash}
-use Rattle.frame.specs.Digits.{isDigit, digit, bytesOf, numberAt, character}
+use Rattle.framing.specs.Digits.{isDigit, digit, bytesOf, numberAt, character}
 
 -- which are digits, by their order
 pub before-digits : (c : ℕ) → c < 48 → isDigit c ≡ false

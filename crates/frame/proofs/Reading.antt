@@ -7,11 +7,11 @@ use lib.ListN.{length}
 use lib.Dec.{eqb}
 use borrow.Author.Tests.{eq-eqb, ne-eqb}
 use Rattle.circuit.specs.Lists.{if_then_else_, all}
-use Rattle.frame.specs.declared.request.Request.{Request}
-use Rattle.frame.specs.declared.request.Request.the-variants.{Nothing}
-use Rattle.frame.specs.declared.request.Form.{Form}
-use Rattle.frame.specs.Digits.{isDigit, bytesOf, numberAt}
-use Rattle.frame.specs.Requests.{form, formBy, formOf, requestOf}
+use Rattle.framing.specs.declared.Request.{Request}
+use Rattle.framing.specs.declared.Request.the-variants.{Nothing}
+use Rattle.framing.specs.declared.Form.{Form}
+use Rattle.framing.specs.Digits.{isDigit, bytesOf, numberAt}
+use Rattle.framing.specs.Requests.{form, formBy, formOf, requestOf}
 
 -- the form of an opcode that was read
 pub form-picked : (k o : ℕ) (bs : List ℕ) → o ≡ k → o ≡ numberAt 1 0 bs → formBy k bs ≡ formOf bs

@@ -27,14 +27,14 @@ use Rattle.lowering.specs.declared.Lowered.{Lowered}
 use Rattle.lowering.specs.declared.Lowered.the-variants as lowered
 use Rattle.lowering.specs.Calls.{lowerCall}
 use Rattle.lower.specs.Told.{toldLowering}
-use Rattle.frame.specs.declared.reply.Reply.{Reply}
-use Rattle.frame.specs.declared.reply.Reply.the-variants.{Bare}
-use Rattle.frame.specs.declared.request.Request.{Request}
-use Rattle.frame.specs.Digits.{hexadecimal}
-use Rattle.frame.specs.Requests.{requestOf}
-use Rattle.frame.specs.States.{State, lent, rootRoom, rootCount, rootsOf, withRoot, withoutRoots}
-use Rattle.frame.specs.Answers.{Replied, told, bare, FRAME, idAnswer, idReply, startNumber, startAs, startAnswer, inputAnswer, rootAnswer, lowerAnswer, answered, isStart, inTime, replied, replyBytes, countsReply}
-use Rattle.frame.specs.Frames.{lineAnswer, answerLine, framed, frameCall}
+use Rattle.framing.specs.declared.Reply.{Reply}
+use Rattle.framing.specs.declared.Reply.the-variants.{Bare}
+use Rattle.framing.specs.declared.Request.{Request}
+use Rattle.framing.specs.Digits.{hexadecimal}
+use Rattle.framing.specs.Requests.{requestOf}
+use Rattle.framing.specs.States.{State, lent, rootRoom, rootCount, rootsOf, withRoot, withoutRoots}
+use Rattle.framing.specs.Answers.{Replied, told, bare, FRAME, idAnswer, idReply, startNumber, startAs, startAnswer, inputAnswer, rootAnswer, lowerAnswer, answered, isStart, inTime, replied, replyBytes, countsReply}
+use Rattle.framing.specs.Frames.{lineAnswer, answerLine, framed, frameCall}
 use Rattle.frame.specs.Puts.{Put}
 use Rattle.frame.proofs.Reading.{Not}
 

@@ -11,10 +11,10 @@ use lib.ListN.{length, getD, set, take, length-append, length-take}
 use lib.Seq.{sets, set-out, take-suc, take-all, length-take-le}
 use borrow.Author.Tests.{eq-eqb, ne-eqb}
 use Rattle.circuit.specs.Lists.{if_then_else_}
-use Rattle.frame.specs.Digits.{character, hexadecimal, two, twos}
-use Rattle.frame.specs.declared.reply.Reply.{Reply}
-use Rattle.frame.specs.declared.reply.Reply.the-variants.{Bare, Id, Counts}
-use Rattle.frame.specs.Answers.{replyBytes}
+use Rattle.framing.specs.Digits.{character, hexadecimal, two, twos}
+use Rattle.framing.specs.declared.Reply.{Reply}
+use Rattle.framing.specs.declared.Reply.the-variants.{Bare, Id, Counts}
+use Rattle.framing.specs.Answers.{replyBytes}
 use Rattle.frame.specs.Puts.{Put}
 
 -- one text after the other

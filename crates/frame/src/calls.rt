@@ -3,8 +3,8 @@ use crate::reply::write;
 use crate::request::read;
 use crate::respond::respond;
 ghost use mathlib.Core.Path.{_≡_};
-ghost use Rattle.frame.specs.States.{lent};
-ghost use Rattle.frame.specs.Frames.{framed, frameCall};
+ghost use Rattle.framing.specs.States.{lent};
+ghost use Rattle.framing.specs.Frames.{framed, frameCall};
 
 // Answers a line, given without its line feed: how many bytes the answer has, its line feed included. They are written as far as there are places;
 // 4,107 are enough for lists of 512. The caller keeps the circuit's words, all zero before the first line, the roots' (their number, then 64 places)

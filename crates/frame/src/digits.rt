@@ -3,7 +3,7 @@ ghost use mathlib.Core.Path.{_≡_};
 ghost use Prim.Native.Nat.{_+_, _*_, _<_, _≤_};
 ghost use lib.ListN.{length, getD};
 ghost use Rattle.circuit.specs.Lists.{all};
-ghost use Rattle.frame.specs.Digits.{isDigit, digit, bytesOf, numberAt, character};
+ghost use Rattle.framing.specs.Digits.{isDigit, digit, bytesOf, numberAt, character};
 
 fn is_digit(c: u8) -> bool
     ensures { λ r. ⌜ r ≡ isDigit c ⌝ }
@@ -21,7 +21,7 @@ fn is_digit(c: u8) -> bool
 }
 
 // Whether a line has nothing else.
-pub fn all_digits(line: &[u8]) -> bool
+pub(crate) fn all_digits(line: &[u8]) -> bool
     ensures { λ r. ⌜ r ≡ all isDigit (now (line .entry)) ⌝ }
 {
     let mut i: usize = 0;
@@ -74,7 +74,7 @@ pub fn number(line: &[u8], size: usize, after: usize) -> u64
 }
 
 // The digit of a value.
-pub fn character(d: u64) -> u8
+pub(crate) fn character(d: u64) -> u8
     requires { ⌜ d < 16 ⌝ }
     ensures { λ r. ⌜ r ≡ character d ⌝ }
 {

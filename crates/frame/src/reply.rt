@@ -1,22 +1,16 @@
 // What a line is answered, and the digits of that. Each of the functions that write answers the place behind what it wrote; characters for which
 // there is no place are left out, and counted.
 use crate::digits::character;
+use framing::Reply;
 ghost use mathlib.Core.Path.{_≡_};
 ghost use mathlib.Core.List.{List, [], _∷_, _++_};
 ghost use Prim.Native.Nat.{_+_, _*_, _^_, _<_};
 ghost use lib.ListN.{length, take};
-ghost use Rattle.frame.specs.Digits.{hexadecimal, two, twos};
-ghost use Rattle.frame.specs.Answers.{replyBytes};
+ghost use Rattle.framing.specs.Digits.{hexadecimal, two, twos};
+ghost use Rattle.framing.specs.Answers.{replyBytes};
 ghost use Rattle.frame.specs.Puts.{Put};
 
 const LINE_FEED: u8 = 10;
-
-// A number alone; the number, and if that is 0, an id; the number, and if that is 0, how many of each list.
-pub enum Reply {
-    Bare(u64),
-    Id(u64, u64),
-    Counts(u64, u64, u64),
-}
 
 fn put(answer: &mut [u8], at: usize, c: u8) -> usize
     requires { ⌜ at + 1 < 2 ^ 64 ⌝ }

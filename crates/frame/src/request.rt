@@ -3,28 +3,12 @@ use crate::digits::all_digits;
 use crate::digits::number;
 use circuit::node::Op;
 use field::extension::Triple;
+use framing::Form;
+use framing::Request;
 ghost use mathlib.Core.Path.{_≡_};
 ghost use Prim.Native.Nat.{_≤_};
-ghost use Rattle.frame.specs.Digits.{bytesOf};
-ghost use Rattle.frame.specs.Requests.{tripleAt, formOf, requestOf};
-
-// A frame, its numbers read. A line that is none asks for nothing.
-pub enum Request {
-    Start(u64),
-    Input(u64, u64),
-    Challenge(u64),
-    Base(u64),
-    Extension(Triple),
-    Operation(Op, u64, u64),
-    Subtract(u64, u64),
-    Negate(u64),
-    Root(u64),
-    Lower(u64, u64, u64),
-    Nothing,
-}
-
-// How many bytes a frame has, its opcode included, and what it asks for if it has so many.
-pub struct Form(pub usize, pub Request);
+ghost use Rattle.framing.specs.Digits.{bytesOf};
+ghost use Rattle.framing.specs.Requests.{tripleAt, formOf, requestOf};
 
 fn triple_at(line: &[u8]) -> Triple
     ensures { λ r. ⌜ r ≡ tripleAt (bytesOf (now (line .entry))) ⌝ }

@@ -1,6 +1,4 @@
 // What a request does, and what it is answered.
-use crate::reply::Reply;
-use crate::request::Request;
 use crate::roots;
 use build_calls::calls::base_constant;
 use build_calls::calls::challenge;
@@ -16,6 +14,8 @@ use circuit::node::RowKind;
 use circuit::refusal::BAD_ID;
 use circuit::refusal::FRAME;
 use circuit::refusal::NO_ROOM;
+use framing::Reply;
+use framing::Request;
 use lower::calls::lower;
 use lowering::Lowered;
 ghost use mathlib.Core.Path.{_≡_};
@@ -24,8 +24,8 @@ ghost use Prim.Native.Nat.{ℕ};
 ghost use lib.Dec.{eqb};
 ghost use Rattle.circuit.specs.Words.{rowKind, used};
 ghost use Rattle.circuit.specs.Calls.{startCall};
-ghost use Rattle.frame.specs.States.{lent};
-ghost use Rattle.frame.specs.Answers.{told, isStart, inTime, startAs, startAnswer, inputAnswer, rootAnswer, answered, replied, lowerAnswer, idReply, startNumber, countsReply};
+ghost use Rattle.framing.specs.States.{lent};
+ghost use Rattle.framing.specs.Answers.{told, isStart, inTime, startAs, startAnswer, inputAnswer, rootAnswer, answered, replied, lowerAnswer, idReply, startNumber, countsReply};
 
 // The row kind: 0 until a 00 is accepted.
 pub fn kind_of(m: &[u64]) -> u64
@@ -37,7 +37,7 @@ pub fn kind_of(m: &[u64]) -> u64
     m[0]
 }
 
-pub fn used_of(m: &[u64]) -> u64
+pub(crate) fn used_of(m: &[u64]) -> u64
     ensures { λ r. ⌜ r ≡ used (now (m .entry)) ⌝ }
 {
     if m.len() < 2 {
@@ -204,7 +204,7 @@ fn answer_to(
     }
 }
 
-pub fn respond(
+pub(crate) fn respond(
     m: &mut [u64],
     roots: &mut [u64],
     main: &mut [u64],

@@ -1,11 +1,11 @@
 // The roots' words: how many there are, then their ids. What no caller of ours writes means something too: never more than there is room for.
 ghost use mathlib.Core.Path.{_≡_};
 ghost use Prim.Native.Nat.{_<_};
-ghost use Rattle.frame.specs.States.{rootRoom, rootCount, withRoot, withoutRoots};
+ghost use Rattle.framing.specs.States.{rootRoom, rootCount, withRoot, withoutRoots};
 
 const MOST_ROOTS: usize = 64;
 
-pub fn room_of(roots: &[u64]) -> usize
+pub(crate) fn room_of(roots: &[u64]) -> usize
     ensures { λ r. ⌜ r ≡ rootRoom (now (roots .entry)) ⌝ }
 {
     if roots.len() == 0 {
@@ -17,7 +17,7 @@ pub fn room_of(roots: &[u64]) -> usize
     MOST_ROOTS
 }
 
-pub fn count_of(roots: &[u64]) -> usize
+pub(crate) fn count_of(roots: &[u64]) -> usize
     ensures { λ r. ⌜ r ≡ rootCount (now (roots .entry)) ⌝ }
 {
     let room = room_of(roots);
@@ -31,7 +31,7 @@ pub fn count_of(roots: &[u64]) -> usize
 }
 
 // One more, where there is room.
-pub fn add(roots: &mut [u64], i: u64)
+pub(crate) fn add(roots: &mut [u64], i: u64)
     requires { ⌜ rootCount (now roots) < rootRoom (now roots) ⌝ }
     ensures { λ r. ⌜ now (roots .exit) ≡ withRoot (now (roots .entry)) i ⌝ }
 {
@@ -41,7 +41,7 @@ pub fn add(roots: &mut [u64], i: u64)
 }
 
 // No roots.
-pub fn clear(roots: &mut [u64])
+pub(crate) fn clear(roots: &mut [u64])
     ensures { λ r. ⌜ now (roots .exit) ≡ withoutRoots (now (roots .entry)) ⌝ }
 {
     if roots.len() == 0 {

@@ -1,20 +1,20 @@
 // Document 01's frame program: answers the frames on standard input, a line for each line, as soon as they have been read. Its memory is constant.
+use classes::least::LEAST;
+use classes::table::TABLE;
 use libc::STDIN_FILENO;
 use libc::STDOUT_FILENO;
+use stream::feed::LIST;
 use stream::feed::MOST_CHARACTERS;
+use stream::feed::NUMBERS;
+use stream::feed::ROOTS;
+use stream::feed::WORDS;
 use stream::feed::answer_line;
 use stream::feed::feed;
 ghost use Prim.Native.Nat.{_≤_};
 ghost use lib.ListN.{length, take};
-ghost use Rattle.frame.specs.States.{lent};
+ghost use Rattle.framing.specs.States.{lent};
+ghost use Rattle.kept.specs.Keeps.{Keeps};
 ghost use Rattle.stream.specs.Stream.{stream, room, Roomy, Poured};
-
-// 512 nodes; the number of roots and 64 roots; 512 places in each lowering list.
-const WORDS: usize = 3074;
-
-const ROOTS: usize = 65;
-
-const LIST: usize = 512;
 
 const PART: usize = 65536;
 
@@ -24,21 +24,36 @@ fn pour(
     roots: &mut [u64],
     main: &mut [u64],
     aux: &mut [u64],
+    numbers: &mut [u64],
+    table: &mut [u64],
+    least: &mut [u64],
     line: &mut [u8],
     kept: usize,
     part: &[u8],
     out: &mut [u8],
 ) -> usize
-    requires { ⌜ Roomy (now line) kept (now main) (now aux) (now out) 0 ⌝ }
-    ensures { λ r. ⌜ Poured (stream (lent (now (m .entry)) (now (roots .entry)) (now (main .entry)) (now (aux .entry))) (take kept (now (line .entry)))) (now (part .entry)) (lent (now (m .exit)) (now (roots .exit)) (now (main .exit)) (now (aux .exit))) (now (line .exit)) r ⌝ }
+    requires { ⌜ Roomy (now line) kept (now main) (now aux) (now out) 0 × Keeps (now m) (now numbers) (now table) (now least) ⌝ }
+    ensures { λ r. ⌜ Poured (stream (lent (now (m .entry)) (now (roots .entry)) (now (main .entry)) (now (aux .entry))) (take kept (now (line .entry)))) (now (part .entry)) (lent (now (m .exit)) (now (roots .exit)) (now (main .exit)) (now (aux .exit))) (now (line .exit)) r × Keeps (now (m .exit)) (now (numbers .exit)) (now (table .exit)) (now (least .exit)) ⌝ }
 {
     let mut count = kept;
     let mut from: usize = 0;
     while from < part.len() {
-        let fed = feed(m, roots, main, aux, line, count, &part[from..], out);
-        let written = fed.written;
+        let fed = feed(
+            m,
+            roots,
+            main,
+            aux,
+            numbers,
+            table,
+            least,
+            line,
+            count,
+            &part[from..],
+            out,
+        );
+        let written = fed.step.at;
         io::write_all(STDOUT_FILENO, &out[..written]);
-        count = fed.kept;
+        count = fed.step.kept;
         from += fed.taken;
     }
     count
@@ -50,16 +65,60 @@ fn finish(
     roots: &mut [u64],
     main: &mut [u64],
     aux: &mut [u64],
+    numbers: &mut [u64],
+    table: &mut [u64],
+    least: &mut [u64],
     line: &[u8],
     out: &mut [u8],
 )
-    requires { ⌜ room (now main) (now aux) ≤ length (now out) ⌝ }
+    requires { ⌜ (room (now main) (now aux) ≤ length (now out)) × Keeps (now m) (now numbers) (now table) (now least) ⌝ }
 {
     if line.len() == 0 {
         return;
     }
-    let n = answer_line(m, roots, main, aux, line, out, 0);
+    let n = answer_line(m, roots, main, aux, numbers, table, least, line, out, 0);
     io::write_all(STDOUT_FILENO, &out[..n]);
+}
+
+// Answers all of the input, with memory that has not been used yet.
+fn serve(
+    m: &mut [u64],
+    roots: &mut [u64],
+    main: &mut [u64],
+    aux: &mut [u64],
+    numbers: &mut [u64],
+    table: &mut [u64],
+    least: &mut [u64],
+    line: &mut [u8],
+    part: &mut [u8],
+    out: &mut [u8],
+)
+    requires { ⌜ Roomy (now line) 0 (now main) (now aux) (now out) 0 × Keeps (now m) (now numbers) (now table) (now least) ⌝ }
+{
+    let mut kept: usize = 0;
+    // A proved loop has to end, and nothing says that the input does: no input takes so many turns.
+    let mut turns = u64::MAX;
+    while turns > 0 {
+        let got = libc::read(STDIN_FILENO, part);
+        let n = io::count(got, part);
+        turns = if n == 0 { 0 } else { turns - 1 };
+        let p = &part[..n];
+        kept = pour(
+            m,
+            roots,
+            main,
+            aux,
+            numbers,
+            table,
+            least,
+            line,
+            kept,
+            p,
+            out,
+        );
+    }
+    let line = &line[..kept];
+    finish(m, roots, main, aux, numbers, table, least, line, out);
 }
 
 fn main() {
@@ -67,33 +126,22 @@ fn main() {
     let mut roots = [0u64; ROOTS];
     let mut main = [0u64; LIST];
     let mut aux = [0u64; LIST];
+    let mut numbers = [0u64; NUMBERS];
+    let mut table = [0u64; TABLE];
+    let mut least = [0u64; LEAST];
     let mut line = [0u8; MOST_CHARACTERS];
     let mut part = [0u8; PART];
     let mut out = [0u8; PART];
-    let mut kept: usize = 0;
-    // A proved loop has to end, and nothing says that the input does: no input takes so many turns.
-    let mut turns = u64::MAX;
-    while turns > 0 {
-        let got = libc::read(STDIN_FILENO, &mut part);
-        let n = io::count(got, &part);
-        turns = if n == 0 { 0 } else { turns - 1 };
-        kept = pour(
-            &mut m,
-            &mut roots,
-            &mut main,
-            &mut aux,
-            &mut line,
-            kept,
-            &part[..n],
-            &mut out,
-        );
-    }
-    finish(
+    serve(
         &mut m,
         &mut roots,
         &mut main,
         &mut aux,
-        &line[..kept],
+        &mut numbers,
+        &mut table,
+        &mut least,
+        &mut line,
+        &mut part,
         &mut out,
     );
 }

@@ -13,7 +13,7 @@ use Rattle.circuit.specs.declared.node.Position.{Position}
 use Rattle.circuit.specs.declared.node.Position.the-variants.{Main, Aux}
 use Rattle.circuit.specs.Words.{used, limit, registered, column, isMain}
 use Rattle.circuit.specs.Tree.{inputLeaf, tree}
-use Rattle.read.specs.Readings.{isBase}
+use Rattle.reading.specs.Readings.{isBase}
 use Rattle.lowering.specs.Lowering.{Lowering, tooHigh, candidates, best, substituted}
 use Rattle.lowering.proofs.Shape.{leafE, Shape, Unf, baseS}
 use Rattle.lowering.proofs.Steps.{Choice}

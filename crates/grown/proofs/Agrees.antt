@@ -6,7 +6,7 @@ use mathlib.Core.List.{List}
 use Rattle.circuit.specs.declared.node.Position.{Position}
 use Rattle.circuit.specs.Words.{used, apply}
 use Rattle.circuit.specs.Tree.{baseLeaf, extensionLeaf, challengeLeaf, inputLeaf, tree}
-use Rattle.read.specs.Readings.{Assignment, inputValue, value}
+use Rattle.reading.specs.Readings.{Assignment, inputValue, value}
 use Rattle.lowering.proofs.Shape.{leafE, Shape, lf, op, Look, Unf, val}
 use Rattle.lowering.proofs.Words.{look, Sound}
 use Rattle.lowering.proofs.Assignments.{value-is}

@@ -11,7 +11,7 @@ use borrow.Author.Tests.{lt-ltb, le-ltb}
 use Rattle.field.specs.Base.{p}
 use Rattle.field.specs.Extension.{Canonical}
 use Rattle.circuit.specs.Lists.{In}
-use Rattle.read.specs.Readings.{Assignment}
+use Rattle.reading.specs.Readings.{Assignment}
 use Rattle.lowering.specs.Demand.{Cells, ButNew}
 use Rattle.lowering.proofs.Assignments.{same-cells}
 use Rattle.grown.specs.Promise.{NewValues, row, with-new}

@@ -14,8 +14,8 @@ use Rattle.circuit.specs.Lists.{if_then_else_, upTo, any, each}
 use Rattle.circuit.specs.Words.{rowKind, used, limit, offset, word, nodeAt, expressionAt, registered}
 use Rattle.circuit.specs.NotCircuit.{badRow, badExpression, badNode, eitherOperand, goesOn, cyclic, badHeader, notCircuit}
 use Rattle.circuit.specs.Tree.{treeOver, unfolded, tree}
-use Rattle.paths.specs.Paths.{paths}
-use Rattle.paths.specs.Calls.{counted}
+use Rattle.walking.specs.Paths.{paths}
+use Rattle.walking.specs.Calls.{counted}
 use Rattle.grown.specs.Results.{alike, Unique}
 
 -- the same words but for the reference counts

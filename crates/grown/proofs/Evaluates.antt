@@ -17,11 +17,11 @@ use Rattle.circuit.specs.NotCircuit.{badWord, notCircuit, badId}
 use Rattle.circuit.specs.Tree.{tree}
 use Rattle.circuit.specs.Answers.{accepted}
 use Rattle.circuit.proofs.Refusals.{refusal-none, refusal-next, reading-accepted, no-bad-id, bad-id-next}
-use Rattle.paths.specs.Paths.{walk}
+use Rattle.walking.specs.Paths.{walk}
 use Rattle.paths.proofs.Below.{walks-one, walks-below}
-use Rattle.read.specs.Readings.{value}
-use Rattle.read.specs.Refusals.{columnsLent, readsBeyond, badTable}
-use Rattle.read.specs.Calls.{assigned, evaluateCall}
+use Rattle.reading.specs.Readings.{value}
+use Rattle.reading.specs.Refusals.{columnsLent, readsBeyond, badTable}
+use Rattle.reading.specs.Calls.{assigned, evaluateCall}
 use Rattle.lowering.proofs.ListLaws.{any-false, in-left, in-right, in-cases}
 use Rattle.lowering.proofs.Proper.{none-false}
 use Rattle.grown.specs.Evaluated.{Wide, NewWords}

@@ -16,8 +16,8 @@ use Rattle.circuit.specs.Answers.{accepted}
 use Rattle.circuit.specs.Calls.{startCall}
 use Rattle.building.specs.Calls.{inputCall, operationCall}
 use Rattle.circuit.proofs.Tests.{any-at}
-use Rattle.read.specs.Refusals.{readsBeyond}
-use Rattle.read.specs.Calls.{evaluateCall}
+use Rattle.reading.specs.Refusals.{readsBeyond}
+use Rattle.reading.specs.Calls.{evaluateCall}
 use Rattle.lowering.specs.Calls.{lowerCall}
 use Rattle.lowering.specs.Computing.{lowerComputes}
 use Rattle.grown.specs.Grown as grown

@@ -15,8 +15,8 @@ use Rattle.circuit.specs.Tree.{tree}
 use Rattle.circuit.specs.NotCircuit.{notCircuit}
 use Rattle.circuit.specs.Outcomes.{Outcome}
 use Rattle.circuit.specs.Answers.{accepted}
-use Rattle.read.specs.Readings.{Assignment, value}
-use Rattle.read.specs.Calls.{assigned, evaluateCall}
+use Rattle.reading.specs.Readings.{Assignment, value}
+use Rattle.reading.specs.Calls.{assigned, evaluateCall}
 use Rattle.lowering.specs.Lowering.{Lowering}
 use Rattle.lowering.specs.Calls.{lowerCall, returned}
 use Rattle.lowering.proofs.Words.{has-used, valid-sound}

@@ -27,8 +27,8 @@ use Rattle.circuit.proofs.Tests.{neither, or-false}
 use Rattle.building.specs.Building.{Built, findOrMake, operate, negated, subtracted, summed, summedFrom, full}
 use Rattle.building.specs.Calls.{building, inputCall, challengeCall, baseCall, extensionCall, operationCall, subtractCall, negateCall, sumCall}
 use Rattle.build.proofs.Stepping.{constant-good}
-use Rattle.paths.specs.Refusals.{overPaths, repeated}
-use Rattle.paths.specs.Calls.{counted, countCall}
+use Rattle.walking.specs.Refusals.{overPaths, repeated}
+use Rattle.walking.specs.Calls.{counted, countCall}
 use Rattle.lowering.proofs.Finds.{same-shape}
 use Rattle.lowering.proofs.Accepts.{peel, number-is}
 use Rattle.lowering.proofs.Fits.{in-place}

@@ -22,9 +22,9 @@ use Rattle.circuit.specs.Tree.{inputLeaf, tree}
 use Rattle.circuit.specs.NotCircuit.{badIndex, notCircuit}
 use Rattle.circuit.specs.Answers.{accepted}
 use Rattle.circuit.proofs.Tests.{neither, either}
-use Rattle.read.specs.Readings.{Assignment, inputValue, value}
-use Rattle.read.specs.Refusals.{columnsLent, readsBeyond}
-use Rattle.read.specs.Calls.{tripleAt, nextRow, assigned}
+use Rattle.reading.specs.Readings.{Assignment, inputValue, value}
+use Rattle.reading.specs.Refusals.{columnsLent, readsBeyond}
+use Rattle.reading.specs.Calls.{tripleAt, nextRow, assigned}
 use Rattle.lowering.specs.Lowering.{Lowering}
 use Rattle.lowering.proofs.Shape.{leafE, exprOf}
 use Rattle.lowering.proofs.Words.{look, look-in, look-lt, says, valid-sound}

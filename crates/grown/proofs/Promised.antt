@@ -16,7 +16,7 @@ use Rattle.circuit.specs.declared.node.Op.the-variants.{Add, Multiply}
 use Rattle.circuit.specs.declared.node.Expression.the-variants.{Base, Operation, Input}
 use Rattle.circuit.specs.Words.{used, expressionAt}
 use Rattle.circuit.specs.Tree.{tree}
-use Rattle.read.specs.Readings.{Assignment, degree⁺, above, value}
+use Rattle.reading.specs.Readings.{Assignment, degree⁺, above, value}
 use Rattle.lowering.specs.Lowering.{Lowering, tooHigh}
 use Rattle.lowering.specs.Calls.{lowerCall, returned}
 use Rattle.lowering.specs.Demand.{Cells, valuesOf, Demand3, Filled}

@@ -8,8 +8,8 @@ use Rattle.circuit.specs.Outcomes.{refusal, numbered, outcome}
 use Rattle.circuit.specs.Calls.{reading, startCall, readCall, usedCall, freeCall}
 use Rattle.classes.specs.Classes.{equalCall}
 use Rattle.building.specs.Calls.{building, inputCall, challengeCall, baseCall, zeroCall, oneCall, minusOneCall, extensionCall, operationCall, subtractCall, negateCall, sumCall}
-use Rattle.paths.specs.Calls.{walkCall, countCall, countsCall}
-use Rattle.read.specs.Calls.{constantCall, isZeroCall, isOneCall, isMinusOneCall, degreeCall, highestCall, baseTestCall, evaluateCall, visibleCall}
+use Rattle.walking.specs.Calls.{walkCall, countCall, countsCall}
+use Rattle.reading.specs.Calls.{constantCall, isZeroCall, isOneCall, isMinusOneCall, degreeCall, highestCall, baseTestCall, evaluateCall, visibleCall}
 use Rattle.lowering.specs.Calls.{lowerCall}
 use Rattle.grown.specs.Refusals.{Keeps, Refusals}
 

@@ -10,7 +10,7 @@ use lib.Seq.{sets, length-sets, getD-set-same, getD-set-other, drop-set-lt}
 use Rattle.field.specs.declared.extension.Triple.{Triple}
 use Rattle.field.specs.Extension.{triple}
 use Rattle.circuit.specs.Lists.{In}
-use Rattle.read.specs.Calls.{tripleAt, nextRow}
+use Rattle.reading.specs.Calls.{tripleAt, nextRow}
 use Rattle.grown.specs.Promise.{row}
 use Rattle.grown.proofs.Choices.{row-old, row-at}
 

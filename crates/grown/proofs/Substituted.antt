@@ -16,7 +16,7 @@ use Rattle.circuit.specs.NotCircuit.{notCircuit}
 use Rattle.circuit.specs.Tree.{inputLeaf, tree}
 use Rattle.circuit.proofs.Lists.{clash}
 use Rattle.circuit.proofs.Tests.{last-or}
-use Rattle.read.specs.Readings.{isBase}
+use Rattle.reading.specs.Readings.{isBase}
 use Rattle.lowering.specs.Lowering.{Lowering, substituted}
 use Rattle.lowering.proofs.Shape.{leafE, Shape, lf, shape, Unf, deg, baseS}
 use Rattle.lowering.proofs.Words.{look, Sound, tree-shape, shape-is}

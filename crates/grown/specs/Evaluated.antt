@@ -14,8 +14,8 @@ use Rattle.circuit.specs.Words.{rowKind, used, expressionAt}
 use Rattle.circuit.specs.NotCircuit.{badWord}
 use Rattle.circuit.specs.Outcomes.{Outcome}
 use Rattle.circuit.specs.Answers.{accepted}
-use Rattle.read.specs.Refusals.{readsBeyond}
-use Rattle.read.specs.Calls.{evaluateCall}
+use Rattle.reading.specs.Refusals.{readsBeyond}
+use Rattle.reading.specs.Calls.{evaluateCall}
 use Rattle.lowering.specs.Lowering.{Lowering}
 
 -- tables that no evaluation in m refuses: lengths as their layout needs, no node reads beyond, and every word is below p

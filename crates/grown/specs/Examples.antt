@@ -12,7 +12,7 @@ use Rattle.circuit.specs.Lists.{agree}
 use Rattle.circuit.specs.Outcomes.{Outcome}
 use Rattle.circuit.specs.Calls.{startCall}
 use Rattle.building.specs.Calls.{inputCall, operationCall}
-use Rattle.read.specs.Calls.{evaluateCall}
+use Rattle.reading.specs.Calls.{evaluateCall}
 use Rattle.lowering.specs.Lowering.{Lowering}
 use Rattle.lowering.specs.Calls.{lowerCall, returned}
 use Rattle.lowering.specs.Computing.{lowerComputes}

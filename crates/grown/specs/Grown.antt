@@ -8,7 +8,7 @@ use Rattle.circuit.specs.declared.node.Position.{Position}
 use Rattle.circuit.specs.declared.node.Op.{Op}
 use Rattle.circuit.specs.Calls.{startCall}
 use Rattle.building.specs.Calls.{inputCall, challengeCall, baseCall, extensionCall, operationCall, subtractCall, negateCall, sumCall}
-use Rattle.paths.specs.Calls.{countCall}
+use Rattle.walking.specs.Calls.{countCall}
 use Rattle.lowering.specs.Lowering.{Lowering}
 use Rattle.lowering.specs.Calls.{lowerCall}
 

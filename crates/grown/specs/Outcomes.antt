@@ -22,15 +22,15 @@ use Rattle.classes.specs.Told.{toldEqual}
 use Rattle.building.specs.declared.Answer.the-variants as id-answer
 use Rattle.building.specs.Told.{toldId}
 use Rattle.building.specs.Calls.{inputCall, challengeCall, baseCall, zeroCall, oneCall, minusOneCall, extensionCall, operationCall, subtractCall, negateCall, sumCall}
-use Rattle.paths.specs.declared.Count.the-variants as list-answer
-use Rattle.paths.specs.declared.Counted.the-variants as counts-answer
-use Rattle.paths.specs.Told as paths
-use Rattle.paths.specs.Calls.{walkCall, countCall, countsCall}
-use Rattle.read.specs.declared.answer.Test.the-variants as test-answer
-use Rattle.read.specs.declared.answer.Degree.the-variants as degree-answer
-use Rattle.read.specs.declared.answer.Value.the-variants as value-answer
-use Rattle.read.specs.Answers.{toldTest, toldDegree, toldValue}
-use Rattle.read.specs.Calls.{isZeroCall, isOneCall, isMinusOneCall, degreeCall, highestCall, baseTestCall, evaluateCall, visibleCall}
+use Rattle.walking.specs.declared.Count.the-variants as list-answer
+use Rattle.walking.specs.declared.Counted.the-variants as counts-answer
+use Rattle.walking.specs.Told as paths
+use Rattle.walking.specs.Calls.{walkCall, countCall, countsCall}
+use Rattle.reading.specs.declared.answer.Test.the-variants as test-answer
+use Rattle.reading.specs.declared.answer.Degree.the-variants as degree-answer
+use Rattle.reading.specs.declared.answer.Value.the-variants as value-answer
+use Rattle.reading.specs.Answers.{toldTest, toldDegree, toldValue}
+use Rattle.reading.specs.Calls.{isZeroCall, isOneCall, isMinusOneCall, degreeCall, highestCall, baseTestCall, evaluateCall, visibleCall}
 use Rattle.lowering.specs.declared.Lowered.the-variants as lower-answer
 use Rattle.lowering.specs.Lowering.{Lowering}
 use Rattle.lowering.specs.Calls.{lowerCall}

@@ -16,7 +16,7 @@ use Rattle.circuit.specs.declared.node.Op.the-variants.{Add, Multiply}
 use Rattle.circuit.specs.declared.node.Expression.the-variants.{Base, Operation, Input}
 use Rattle.circuit.specs.Lists.{if_then_else_, In}
 use Rattle.circuit.specs.Words.{used, expressionAt}
-use Rattle.read.specs.Readings.{Assignment, above}
+use Rattle.reading.specs.Readings.{Assignment, above}
 use Rattle.lowering.specs.Lowering.{Lowering, M, tooHigh}
 use Rattle.lowering.specs.Demand.{Cells, Vanish, valuesOf}
 use Rattle.grown.specs.Grown.{Grown}

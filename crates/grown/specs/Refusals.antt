@@ -15,8 +15,8 @@ use Rattle.circuit.specs.Outcomes.{Outcome}
 use Rattle.circuit.specs.Calls.{noNode, startCall, readCall, usedCall, freeCall}
 use Rattle.classes.specs.Classes.{equalCall}
 use Rattle.building.specs.Calls.{inputCall, challengeCall, baseCall, zeroCall, oneCall, minusOneCall, extensionCall, operationCall, subtractCall, negateCall, sumCall}
-use Rattle.paths.specs.Calls.{walkCall, countCall, countsCall}
-use Rattle.read.specs.Calls.{isZeroCall, isOneCall, isMinusOneCall, degreeCall, highestCall, baseTestCall, evaluateCall, visibleCall}
+use Rattle.walking.specs.Calls.{walkCall, countCall, countsCall}
+use Rattle.reading.specs.Calls.{isZeroCall, isOneCall, isMinusOneCall, degreeCall, highestCall, baseTestCall, evaluateCall, visibleCall}
 use Rattle.lowering.specs.Lowering.{Lowering}
 use Rattle.lowering.specs.Calls.{lowerCall}
 

@@ -9,7 +9,7 @@ use lib.ListN.{length, set, drop, length-append, length-drop}
 use Rattle.circuit.specs.Lists.{if_then_else_, written}
 use Rattle.circuit.specs.Tree.{tree}
 use Rattle.paths.proofs.Written.{written-more}
-use Rattle.read.specs.Readings.{isBase}
+use Rattle.reading.specs.Readings.{isBase}
 use Rattle.lowering.specs.Lowering.{Lowering, tooHigh, candidates, best, substituted}
 use Rattle.lower.specs.declared.next.Next.{Next}
 use Rattle.lower.specs.declared.next.Next.the-variants.{Node, Done}

@@ -17,7 +17,7 @@ use Rattle.circuit.specs.NotCircuit.{notCircuit, badId}
 use Rattle.circuit.proofs.Tests.{is-false}
 use Rattle.circuit.proofs.Lists.{clash}
 use Rattle.paths.proofs.Below.{any-some}
-use Rattle.read.specs.Refusals.{overDegree}
+use Rattle.reading.specs.Refusals.{overDegree}
 use Rattle.lowering.specs.Lowering.{Lowering, M, tooHigh, candidates, best, substituted, loop, lowered}
 use Rattle.lowering.specs.Refusals.{overOccurrences}
 use Rattle.lower.specs.Survey.{Choosable}

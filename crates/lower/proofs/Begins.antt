@@ -4,7 +4,7 @@ use mathlib.Core.Path.{_≡_, refl}
 use mathlib.Core.Bool.{true, false}
 use mathlib.Core.List.{List}
 use native.Mathlib.Omega.{arith}
-use Rattle.read.specs.Refusals.{overDegree}
+use Rattle.reading.specs.Refusals.{overDegree}
 use Rattle.lowering.specs.Lowering.{M, tooHigh, lowered}
 use Rattle.lowering.specs.Refusals.{overOccurrences}
 use Rattle.lowering.proofs.Words.{valid-sound}

@@ -11,23 +11,18 @@ use borrow.Author.Tests.{ltb-false}
 use Rattle.circuit.specs.Lists.{if_then_else_}
 use Rattle.circuit.specs.Outcomes.{refusal, outcome}
 use Rattle.circuit.specs.Answers.{accepted, refused}
-use Rattle.circuit.proofs.Refusals.{refusal-none, refusal-here, refusal-next, outcome-accepted, outcome-refused}
+use Rattle.circuit.proofs.Refusals.{refusal-none, refusal-next, outcome-accepted, outcome-refused}
 use Rattle.paths.proofs.Written.{written-none}
 use Rattle.lowering.specs.Lowering.{Lowering, M, tooHigh}
 use Rattle.lowering.specs.Refusals.{overOccurrences}
 use Rattle.lowering.specs.Calls.{testsFirst, testsThen, lowerCall}
 use Rattle.lower.specs.Refusing.{firstRefusal, thenRefusal, Passed}
 use Rattle.lower.specs.Advancing.{Begun, finished}
-use Rattle.lowering.proofs.Accepts.{First, tests, then-tests, list-tests}
+use Rattle.lowering.proofs.Accepts.{First, peel, tests, then-tests, list-tests}
 use Rattle.lowering.proofs.Theorem.{lowered-none}
 use Rattle.lowering.proofs.Fills.{start}
 use Rattle.lower.proofs.Along.{Bounded, Going}
 use Rattle.lower.proofs.Begins.{bounded, going-start}
-
--- a test that doesn't apply, and those after it
-peel : (n : ℕ) (b : Bool) (ts : List (ℕ × Bool)) → refusal ((suc n, b) ∷ ts) ≡ 0 → (b ≡ false) × (refusal ts ≡ 0)
-peel n true ts h = absurd (omega (arith, refusal-here (suc n) true ts refl))
-peel n false ts h = (refl, sym (refusal-next (suc n) false ts refl) ∙ h)
 
 -- one that applies, whatever comes after
 refusal-front : (ts us : List (ℕ × Bool)) (k : ℕ) → refusal ts ≡ suc k → refusal (ts ++ us) ≡ suc k

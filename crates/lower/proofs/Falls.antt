@@ -15,11 +15,11 @@ use Rattle.circuit.specs.Words.{used, registered}
 use Rattle.circuit.specs.Tree.{inputLeaf, Tree, leaf, branch, tree}
 use Rattle.circuit.proofs.Tests.{is-false, any-at, any-none}
 use Rattle.circuit.proofs.Lists.{and-true, and-both, clash}
-use Rattle.paths.specs.Paths.{walk, walks, paths}
+use Rattle.walking.specs.Paths.{walk, walks, paths}
 use Rattle.paths.proofs.Walks.{count-append, from, paths-none, paths-more}
 use Rattle.paths.proofs.Below.{any-in, any-some, paths-in, in-paths}
-use Rattle.read.specs.Readings.{degree⁺, above}
-use Rattle.read.specs.Refusals.{overDegree}
+use Rattle.reading.specs.Readings.{degree⁺, above}
+use Rattle.reading.specs.Refusals.{overDegree}
 use Rattle.lowering.specs.Lowering.{Lowering, belowAbove}
 use Rattle.lowering.specs.Refusals.{overOccurrences}
 use Rattle.lowering.proofs.Shape.{leafE, opE, Shape, lf, Look, Unf, deg}

@@ -14,7 +14,7 @@ use Rattle.circuit.specs.Words.{used, limit, column, isMain, isNext}
 use Rattle.circuit.specs.Tree.{inputLeaf, tree}
 use Rattle.circuit.specs.NotCircuit.{notCircuit}
 use Rattle.building.specs.Building.{Built, built, findOrMake, full}
-use Rattle.read.specs.Readings.{isBase}
+use Rattle.reading.specs.Readings.{isBase}
 use Rattle.lower.specs.Substituting.{inputAt, Fresh, Differing, newInput, turned, Substitutable}
 use Rattle.lowering.proofs.Shape.{leafE, Shape, Unf, deg, baseS}
 use Rattle.lowering.proofs.Words.{look, look-lt, Sound}

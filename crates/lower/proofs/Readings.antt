@@ -15,11 +15,11 @@ use Rattle.circuit.specs.NotCircuit.{notCircuit, badId}
 use Rattle.circuit.specs.Rank.{at}
 use Rattle.circuit.proofs.Tests.{any-at}
 use Rattle.circuit.proofs.Lists.{and-true}
-use Rattle.paths.specs.Paths.{walks, paths}
+use Rattle.walking.specs.Paths.{walks, paths}
 use Rattle.paths.specs.Counting.{over, PathCounts}
 use Rattle.paths.proofs.Below.{any-walks, root-below, paths-in, any-some}
-use Rattle.read.specs.Readings.{degree⁺, above}
-use Rattle.read.specs.Refusals.{overDegree}
+use Rattle.reading.specs.Readings.{degree⁺, above}
+use Rattle.reading.specs.Refusals.{overDegree}
 use Rattle.lowering.specs.Lowering.{Candidate, belowAbove, M, tooHigh, candidates, best}
 use Rattle.lowering.specs.Refusals.{loose, overOccurrences}
 use Rattle.lower.specs.Tables.{Degrees, aboveIn, isHighIn, highIn, isCandidateIn, candidateIn, bestIn, isLooseIn, isOverIn}

@@ -11,9 +11,9 @@ use Rattle.circuit.specs.Lists.{any, upTo}
 use Rattle.circuit.specs.Words.{used, limit, expressionAt}
 use Rattle.circuit.specs.NotCircuit.{notCircuit, badId}
 use Rattle.circuit.specs.Outcomes.{refusal}
-use Rattle.paths.specs.Paths.{paths}
+use Rattle.walking.specs.Paths.{paths}
 use Rattle.paths.specs.Counting.{PathCounts}
-use Rattle.read.specs.Refusals.{overDegree}
+use Rattle.reading.specs.Refusals.{overDegree}
 use Rattle.lowering.specs.Lowering.{M, tooHigh}
 use Rattle.lowering.specs.Refusals.{fullLowering, badColumns, loose, overOccurrences}
 use Rattle.lower.specs.Tables.{aboveIn, highIn, Listed, isLooseIn, isOverIn}

@@ -13,7 +13,7 @@ use Rattle.build.specs.declared.steps.Made.{Made}
 use Rattle.build.specs.declared.steps.Made.the-variants.{At, Full}
 use Rattle.building.specs.Building.{Built, findOrMake, subtracted, full}
 use Rattle.build.specs.Inner.{Step}
-use Rattle.read.specs.Readings.{isBase}
+use Rattle.reading.specs.Readings.{isBase}
 use Rattle.lower.specs.declared.substitute.Constraint.{Constraint}
 use Rattle.lowering.specs.Lowering.{renamed, redirected}
 use Rattle.lower.specs.Substituting.{inputAt, Fresh, Differing, Gives, newInput, turned, difference, Substitutable, Replaced}

@@ -18,7 +18,7 @@ use Rattle.circuit.proofs.Lists.{clash, upTo-length}
 use Rattle.paths.specs.Counting.{PathCounts, Countable}
 use Rattle.paths.proofs.Below.{any-some}
 use Rattle.paths.proofs.Counts.{valid-top}
-use Rattle.read.specs.Readings.{isBase}
+use Rattle.reading.specs.Readings.{isBase}
 use Rattle.read.specs.Tables.{Filled, Ranked}
 use Rattle.read.specs.Degrees.{degreeTo, Ordered}
 use Rattle.lowering.specs.Lowering.{tooHigh}

@@ -16,7 +16,7 @@ use Rattle.circuit.specs.Tree.{inputLeaf, tree}
 use Rattle.circuit.specs.Answers.{accepted}
 use Rattle.circuit.proofs.Lists.{clash}
 use Rattle.paths.proofs.Written.{written-none}
-use Rattle.read.specs.Readings.{isBase}
+use Rattle.reading.specs.Readings.{isBase}
 use Rattle.lowering.specs.Lowering.{Lowering, M, tooHigh, candidates, best, substituted}
 use Rattle.lower.specs.declared.calls.Progress.{Progress}
 use Rattle.lower.specs.Substituting.{Substitutable}

@@ -8,8 +8,8 @@ use Rattle.circuit.specs.Lists.{any, upTo}
 use Rattle.circuit.specs.Words.{used, expressionAt}
 use Rattle.circuit.specs.NotCircuit.{notCircuit, badId}
 use Rattle.circuit.specs.Outcomes.{refusal}
-use Rattle.paths.specs.Paths.{paths}
-use Rattle.read.specs.Refusals.{overDegree}
+use Rattle.walking.specs.Paths.{paths}
+use Rattle.reading.specs.Refusals.{overDegree}
 use Rattle.lowering.specs.Lowering.{M}
 use Rattle.lowering.specs.Refusals.{inputAtOrAbove, fullLowering, badColumns, loose, overOccurrences}
 use Rattle.lower.specs.Tables.{aboveIn, highIn}

@@ -11,7 +11,7 @@ use Rattle.circuit.specs.Words.{used, limit, made}
 use Rattle.circuit.specs.Tree.{tree}
 use Rattle.circuit.specs.NotCircuit.{notCircuit}
 use Rattle.building.specs.Building.{Built, built, findOrMake, subtracted, full}
-use Rattle.read.specs.Readings.{isBase}
+use Rattle.reading.specs.Readings.{isBase}
 use Rattle.lower.specs.declared.substitute.Constraint.{Constraint}
 use Rattle.lowering.specs.Lowering.{renamed, redirected}
 

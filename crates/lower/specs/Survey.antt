@@ -11,8 +11,8 @@ use Rattle.circuit.specs.Tree.{tree}
 use Rattle.circuit.specs.NotCircuit.{notCircuit, badId}
 use Rattle.circuit.specs.Rank.{Sorted}
 use Rattle.paths.specs.Counting.{PathCounts}
-use Rattle.read.specs.Readings.{isBase}
-use Rattle.read.specs.Refusals.{overDegree}
+use Rattle.reading.specs.Readings.{isBase}
+use Rattle.reading.specs.Refusals.{overDegree}
 use Rattle.lower.specs.declared.next.Next.{Next}
 use Rattle.lower.specs.declared.next.Next.the-variants.{Node, Done}
 use Rattle.lowering.specs.Lowering.{tooHigh, candidates, best}

@@ -9,7 +9,7 @@ use Rattle.circuit.specs.Lists.{if_then_else_, upTo, keep}
 use Rattle.circuit.specs.Words.{used, registered}
 use Rattle.circuit.specs.Tree.{tree}
 use Rattle.circuit.specs.Rank.{at}
-use Rattle.read.specs.Readings.{degree⁺}
+use Rattle.reading.specs.Readings.{degree⁺}
 use Rattle.lower.specs.declared.choose.Choice.{Choice}
 use Rattle.lowering.specs.Lowering.{Candidate, better, best}
 

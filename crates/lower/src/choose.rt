@@ -14,7 +14,7 @@ pub struct Choice {
 }
 
 // The entry of node i, 0 beyond the end.
-pub fn entry(table: &[u64], i: u64) -> u64
+pub(crate) fn entry(table: &[u64], i: u64) -> u64
     ensures { λ r. ⌜ r ≡ at (now (table .entry)) i ⌝ }
 {
     let k = i as usize;
@@ -25,7 +25,7 @@ pub fn entry(table: &[u64], i: u64) -> u64
 }
 
 // Whether node i has a degree above d. The table's degrees are one higher, and d may be the greatest word.
-pub fn is_above(degrees: &[u64], d: u64, i: u64) -> bool
+pub(crate) fn is_above(degrees: &[u64], d: u64, i: u64) -> bool
     ensures { λ r. ⌜ r ≡ aboveIn (now (degrees .entry)) d i ⌝ }
 {
     let higher = entry(degrees, i);
@@ -46,7 +46,7 @@ fn is_high(degrees: &[u64], counts: &[u64], d: u64, i: u64) -> bool
 }
 
 // Lists the ids of the nodes below the roots with a degree above d, by rising ids; how many there are.
-pub fn high_nodes(degrees: &[u64], counts: &[u64], d: u64, n: u64, high: &mut [u64]) -> u64
+pub(crate) fn high_nodes(degrees: &[u64], counts: &[u64], d: u64, n: u64, high: &mut [u64]) -> u64
     requires { ⌜ n ≤ length (now high) ⌝ }
     ensures { λ r. ⌜ Listed (highIn (now (degrees .entry)) (now (counts .entry)) d n) (now (high .exit)) r ⌝ }
 {
@@ -105,7 +105,7 @@ fn improve(degrees: &[u64], occurrences: &[u64], target: u64, a: Choice, i: u64)
 }
 
 // The choice among the first n nodes. It starts with what each candidate is better than.
-pub fn best_candidate(degrees: &[u64], occurrences: &[u64], target: u64, n: u64) -> u64
+pub(crate) fn best_candidate(degrees: &[u64], occurrences: &[u64], target: u64, n: u64) -> u64
     ensures { λ r. ⌜ r ≡ bestIn (now (degrees .entry)) (now (occurrences .entry)) target n ⌝ }
 {
     let mut best = Choice {

@@ -11,7 +11,7 @@ ghost use Prim.Native.Nat.{_<_};
 ghost use Rattle.circuit.specs.Words.{used};
 ghost use Rattle.circuit.specs.Tree.{tree};
 ghost use Rattle.paths.specs.Counting.{PathCounts};
-ghost use Rattle.read.specs.Readings.{isBase};
+ghost use Rattle.reading.specs.Readings.{isBase};
 ghost use Rattle.read.specs.Tables.{Ranked};
 ghost use Rattle.lower.specs.Tables.{highIn};
 ghost use Rattle.lower.specs.Survey.{Surveyable, Surveyed, Occurring, Choosable, Picked};
@@ -23,7 +23,7 @@ pub enum Next {
 }
 
 // The order of the nodes, their degrees, and the paths from the roots to each.
-pub fn survey(
+pub(crate) fn survey(
     m: &[u64],
     roots: &[u64],
     order: &mut [u64],
@@ -40,7 +40,7 @@ pub fn survey(
 }
 
 // The occurrences of each node: the paths from all nodes below the roots with a degree above d, nested ones too.
-pub fn occurrences(
+pub(crate) fn occurrences(
     m: &[u64],
     order: &[u64],
     rank: &[u64],
@@ -69,7 +69,7 @@ fn is_base(m: &[u64], rank: &[u64], s: u64) -> bool
 }
 
 // Chooses among the candidates, where some root's degree exceeds the target.
-pub fn next_choice(m: &[u64], roots: &[u64], target: u64) -> Next
+pub(crate) fn next_choice(m: &[u64], roots: &[u64], target: u64) -> Next
     requires { ⌜ Choosable target (now m) (now roots) ⌝ }
     ensures { λ r. ⌜ Picked target (now (m .entry)) (now (roots .entry)) r ⌝ }
 {

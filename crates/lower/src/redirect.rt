@@ -37,7 +37,7 @@ fn rename_operands(m: &mut [u64], s: u64, n: u64, i: u64)
 }
 
 // The chosen node becomes loose, and each registered node that used it uses the new input. The chosen node comes first: its own operands stay.
-pub fn redirect(m: &mut [u64], s: u64, n: u64)
+pub(crate) fn redirect(m: &mut [u64], s: u64, n: u64)
     requires { ⌜ (s < used (now m)) × (used (now m) ≤ limit (now m)) ⌝ }
     ensures { λ r. ⌜ now (m .exit) ≡ redirected (now (m .entry)) s n ⌝ }
 {
@@ -51,7 +51,7 @@ pub fn redirect(m: &mut [u64], s: u64, n: u64)
 }
 
 // The roots, too.
-pub fn rename_roots(roots: &mut [u64], s: u64, n: u64)
+pub(crate) fn rename_roots(roots: &mut [u64], s: u64, n: u64)
     ensures { λ r. ⌜ now (roots .exit) ≡ map (renamed s n) (now (roots .entry)) ⌝ }
 {
     let mut k = 0;

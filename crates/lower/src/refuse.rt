@@ -28,7 +28,7 @@ ghost use Rattle.circuit.specs.Words.{used, limit};
 ghost use Rattle.circuit.specs.NotCircuit.{notCircuit, badId};
 ghost use Rattle.circuit.specs.Outcomes.{refusal};
 ghost use Rattle.circuit.specs.Rank.{Sorted};
-ghost use Rattle.read.specs.Refusals.{overDegree};
+ghost use Rattle.reading.specs.Refusals.{overDegree};
 ghost use Rattle.lowering.specs.Lowering.{tooHigh};
 ghost use Rattle.lower.specs.Refusing.{firstRefusal, thenTests, thenRefusal, Passed, columnsFor, overFrom};
 
@@ -50,7 +50,7 @@ fn over_degree(m: &[u64], roots: &[u64]) -> bool
 }
 
 // 1, 8, 2, 11: these are tested of every lowering.
-pub fn first_refusal(m: &[u64], roots: &[u64], target: u64) -> u64
+pub(crate) fn first_refusal(m: &[u64], roots: &[u64], target: u64) -> u64
     ensures { λ r. ⌜ r ≡ firstRefusal target (now (m .entry)) (now (roots .entry)) ⌝ }
 {
     if !is_circuit(m) {
@@ -69,7 +69,7 @@ pub fn first_refusal(m: &[u64], roots: &[u64], target: u64) -> u64
 }
 
 // Whether some root's degree exceeds the target: else nothing more is tested, and nothing done.
-pub fn exceeds(m: &[u64], roots: &[u64], target: u64) -> bool
+pub(crate) fn exceeds(m: &[u64], roots: &[u64], target: u64) -> bool
     requires { ⌜ Passed (now m) (now roots) ⌝ }
     ensures { λ r. ⌜ r ≡ tooHigh target (now (m .entry)) (now (roots .entry)) ⌝ }
 {
@@ -163,7 +163,7 @@ fn first_of(loose: bool, columns: bool, paths: bool, full: bool, room: bool) -> 
 }
 
 // 10, 9, 12, 6, 13: tested where some root's degree exceeds the target. Each list has so many places.
-pub fn then_refusal(
+pub(crate) fn then_refusal(
     m: &[u64],
     roots: &[u64],
     target: u64,

@@ -10,7 +10,7 @@ use circuit::place::make;
 ghost use mathlib.Core.Path.{_≡_};
 ghost use Rattle.circuit.specs.Tree.{tree};
 ghost use Rattle.building.specs.Building.{findOrMake, subtracted};
-ghost use Rattle.read.specs.Readings.{isBase};
+ghost use Rattle.reading.specs.Readings.{isBase};
 ghost use Rattle.lower.specs.Substituting.{inputAt, Fresh, Differing, Gives, Substitutable, Replaced};
 
 // The constraint of a substitution, and whether it goes to the main list.
@@ -56,7 +56,7 @@ fn make_difference(m: &mut [u64], n: u64, s: u64) -> u64
 }
 
 // Node s is replaced by a new input, a main one if s passes the base test. The redirect comes before the constraint: the constraint keeps naming the chosen node.
-pub fn substitute(
+pub(crate) fn substitute(
     m: &mut [u64],
     roots: &mut [u64],
     s: u64,

@@ -22,7 +22,7 @@ const MOST_PATHS: u64 = 4294967295;
 const MOST_COLUMNS: u64 = 65536;
 
 // Whether some root's degree exceeds the target.
-pub fn too_high(degrees: &[u64], target: u64, roots: &[u64]) -> bool
+pub(crate) fn too_high(degrees: &[u64], target: u64, roots: &[u64]) -> bool
     ensures { λ r. ⌜ r ≡ any (aboveIn (now (degrees .entry)) target) (now (roots .entry)) ⌝ }
 {
     let mut k = 0;
@@ -48,7 +48,7 @@ fn is_loose(m: &[u64], counts: &[u64], i: u64) -> bool
 }
 
 // LOOSE: a loose node below a root, or a loose root.
-pub fn any_loose(m: &[u64], counts: &[u64]) -> bool
+pub(crate) fn any_loose(m: &[u64], counts: &[u64]) -> bool
     requires { ⌜ notCircuit (now m) ≡ false ⌝ }
     ensures { λ r. ⌜ r ≡ any (isLooseIn (now (m .entry)) (now (counts .entry))) (upTo (used (now (m .entry)))) ⌝ }
 {
@@ -74,7 +74,7 @@ fn is_over(degrees: &[u64], occurrences: &[u64], i: u64) -> bool
 }
 
 // PATHS: the paths from all high nodes to some node of degree above 1 sum over the bound.
-pub fn any_over(degrees: &[u64], occurrences: &[u64], n: u64) -> bool
+pub(crate) fn any_over(degrees: &[u64], occurrences: &[u64], n: u64) -> bool
     ensures { λ r. ⌜ r ≡ any (isOverIn (now (degrees .entry)) (now (occurrences .entry))) (upTo n) ⌝ }
 {
     let mut i: u64 = 0;
@@ -112,7 +112,7 @@ fn input_at_or_above(main_count: u64, aux_count: u64, e: Expression) -> bool
 }
 
 // COLUMNS, its first half: any used node, below a root or not, is such an input.
-pub fn any_at_or_above(m: &[u64], main_count: u64, aux_count: u64) -> bool
+pub(crate) fn any_at_or_above(m: &[u64], main_count: u64, aux_count: u64) -> bool
     requires { ⌜ notCircuit (now m) ≡ false ⌝ }
     ensures { λ r. ⌜ r ≡ any (λ i. inputAtOrAbove «main_count» «aux_count» (expressionAt (now (m .entry)) i)) (upTo (used (now (m .entry)))) ⌝ }
 {
@@ -128,7 +128,7 @@ pub fn any_at_or_above(m: &[u64], main_count: u64, aux_count: u64) -> bool
 }
 
 // COLUMNS, its second half: a count + M over 65,536. The count may be any word, so nothing is added to it.
-pub fn too_wide(count: u64, more: u64) -> bool
+pub(crate) fn too_wide(count: u64, more: u64) -> bool
     ensures { λ r. ⌜ r ≡ ltb 65536 (count + more) ⌝ }
 {
     if MOST_COLUMNS < count {

@@ -19,7 +19,7 @@ use Rattle.circuit.specs.Words.{used, expressionAt}
 use Rattle.circuit.specs.Tree.{inputLeaf}
 use Rattle.circuit.specs.NotCircuit.{badId, notCircuit}
 use Rattle.circuit.specs.Outcomes.{refusal, numbered, outcome}
-use Rattle.paths.specs.Refusals.{noRoom}
+use Rattle.walking.specs.Refusals.{noRoom}
 use Rattle.lowering.specs.Lowering.{Lowering, M, tooHigh, lowered}
 use Rattle.lowering.specs.Refusals.{atOrAbove, inputAtOrAbove, badColumns, loose, fullLowering}
 use Rattle.lowering.specs.Calls.{testsFirst, testsThen, lowerCall, returned}

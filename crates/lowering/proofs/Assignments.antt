@@ -9,7 +9,7 @@ use Rattle.circuit.specs.declared.node.Position.{Position}
 use Rattle.circuit.specs.declared.node.Position.the-variants.{Main, Aux, NextMain, NextAux}
 use Rattle.circuit.specs.Words.{apply}
 use Rattle.circuit.specs.Tree.{Leaf, baseLeaf, extensionLeaf, challengeLeaf, inputLeaf, Tree, leaf, branch, tree}
-use Rattle.read.specs.Readings.{Assignment, inputValue, leafValue, value}
+use Rattle.reading.specs.Readings.{Assignment, inputValue, leafValue, value}
 use Rattle.lowering.specs.Demand.{Cells}
 use Rattle.lowering.proofs.Shape.{Shape, shape, Unf, valL, val}
 use Rattle.lowering.proofs.Steps.{Fits}

@@ -12,7 +12,7 @@ use Rattle.circuit.specs.declared.node.Position.{Position}
 use Rattle.circuit.specs.declared.node.Op.the-variants.{Add, Multiply}
 use Rattle.circuit.specs.Tree.{Leaf, baseLeaf, inputLeaf}
 use Rattle.circuit.specs.Lists.{In}
-use Rattle.read.specs.Readings.{productDegree⁺}
+use Rattle.reading.specs.Readings.{productDegree⁺}
 use Rattle.lowering.proofs.Shape.{leafE, opE, Shape, lf, op, Look, Unf, deg}
 use Rattle.lowering.proofs.Steps.{Moved, Minus, Gap, sum, swapped, Move, Step, Run, done, more, Standing, Led, NotIn, Distinct, Regs, Rooted, AtMost, Heavy, redirId, Lowered, stop, step}
 use Rattle.lowering.proofs.Unfold.{leaf-low, deg-sub}

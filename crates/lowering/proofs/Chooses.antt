@@ -13,8 +13,8 @@ use Rattle.circuit.specs.declared.node.Op.{Op}
 use Rattle.circuit.specs.declared.node.Op.the-variants.{Add, Multiply}
 use Rattle.circuit.specs.Words.{used, registered}
 use Rattle.circuit.specs.Tree.{Tree, leaf, branch, tree}
-use Rattle.paths.specs.Paths.{walk, walks, paths}
-use Rattle.read.specs.Readings.{productDegree⁺, degree⁺, above}
+use Rattle.walking.specs.Paths.{walk, walks, paths}
+use Rattle.reading.specs.Readings.{productDegree⁺, degree⁺, above}
 use Rattle.lowering.specs.Lowering.{belowAbove, tooHigh, Candidate, candidates, better, best}
 use Rattle.lowering.specs.Refusals.{loose}
 use Rattle.lowering.proofs.Shape.{opE, Shape, shape, Look, Unf, deg}

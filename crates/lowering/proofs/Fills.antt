@@ -14,7 +14,7 @@ use Rattle.circuit.specs.declared.node.Position.{Position}
 use Rattle.circuit.specs.declared.node.Position.the-variants.{Main, Aux, NextMain, NextAux}
 use Rattle.circuit.specs.Words.{used, apply}
 use Rattle.circuit.specs.Tree.{inputLeaf, tree}
-use Rattle.read.specs.Readings.{Assignment, inputValue, value}
+use Rattle.reading.specs.Readings.{Assignment, inputValue, value}
 use Rattle.lowering.specs.Lowering.{Lowering}
 use Rattle.lowering.specs.Demand.{Cells, ButNew, Vanish, Filled}
 use Rattle.lowering.proofs.Shape.{lf, Look, val}

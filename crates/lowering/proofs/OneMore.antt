@@ -11,7 +11,7 @@ use Rattle.circuit.specs.declared.node.Position.{Position}
 use Rattle.circuit.specs.declared.node.Position.the-variants.{Main, Aux, NextMain, NextAux}
 use Rattle.circuit.specs.Words.{used, registered, column, isMain}
 use Rattle.circuit.specs.Tree.{inputLeaf, tree}
-use Rattle.read.specs.Readings.{isBase}
+use Rattle.reading.specs.Readings.{isBase}
 use Rattle.lowering.specs.Lowering.{renamed, Lowering, tooHigh, candidates, best, substituted}
 use Rattle.lowering.proofs.Shape.{leafE, Shape, Unf, baseS}
 use Rattle.lowering.proofs.Steps.{Regs, Rooted, Choice, redirId, Stepped}

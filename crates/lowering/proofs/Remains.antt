@@ -10,7 +10,7 @@ use native.Mathlib.Omega.{arith}
 use Rattle.circuit.specs.declared.node.Position.{Position}
 use Rattle.circuit.specs.declared.node.Op.{Op}
 use Rattle.circuit.specs.declared.node.Op.the-variants.{Add, Multiply}
-use Rattle.read.specs.Readings.{productDegree⁺}
+use Rattle.reading.specs.Readings.{productDegree⁺}
 use Rattle.lowering.proofs.Shape.{opE, Shape, lf, op, Look, Unf, sub, degOp, deg}
 use Rattle.lowering.proofs.Steps.{Below, root, left, right, Regs, Heavy, TooHigh, Choice, redirId, Stepped, step}
 use Rattle.lowering.proofs.Unfold.{one-tree, leaf-low, deg-low}

@@ -15,7 +15,7 @@ use Rattle.circuit.specs.declared.node.Expression.{Expression}
 use Rattle.circuit.specs.declared.node.Expression.the-variants.{Base, Extension, Challenge, Operation, Input}
 use Rattle.circuit.specs.Words.{inputKind, column, apply}
 use Rattle.circuit.specs.Tree.{Leaf, baseLeaf, extensionLeaf, challengeLeaf, inputLeaf, Tree, leaf, branch}
-use Rattle.read.specs.Readings.{leafDegree⁺, productDegree⁺, leafIsBase}
+use Rattle.reading.specs.Readings.{leafDegree⁺, productDegree⁺, leafIsBase}
 
 -- what a node says: a leaf, or an operation on two ids
 pub data Expr : Type 0 where

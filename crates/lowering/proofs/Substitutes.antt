@@ -18,7 +18,7 @@ use Rattle.circuit.specs.declared.node.Node.{Node}
 use Rattle.circuit.specs.Words.{used, registered, column, made, isMain, isNext}
 use Rattle.circuit.specs.Tree.{baseLeaf, inputLeaf, Tree, leaf, branch, tree}
 use Rattle.building.specs.Building.{Built, built, find, orElse, findOrMake, subtracted}
-use Rattle.read.specs.Readings.{isBase}
+use Rattle.reading.specs.Readings.{isBase}
 use Rattle.lowering.specs.Lowering.{renamed, redirected, Lowering, substituted}
 use Rattle.lowering.proofs.Shape.{Expr, leafE, Shape, lf, shape, Unf, sub, deg, baseS}
 use Rattle.lowering.proofs.Steps.{Move, redirE, Stepped, step}

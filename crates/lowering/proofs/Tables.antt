@@ -11,7 +11,7 @@ use Rattle.field.specs.Base.{p}
 use Rattle.field.specs.Extension.{Canonical}
 use Rattle.circuit.specs.Lists.{any, In}
 use Rattle.circuit.specs.NotCircuit.{badWord}
-use Rattle.read.specs.Calls.{tripleAt, nextRow, assigned}
+use Rattle.reading.specs.Calls.{tripleAt, nextRow, assigned}
 use Rattle.lowering.specs.Demand.{Cells}
 use Rattle.lowering.proofs.ListLaws.{any-false, in-left, in-right}
 

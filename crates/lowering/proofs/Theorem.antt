@@ -17,7 +17,7 @@ use Rattle.circuit.specs.declared.node.Expression.the-variants.{Operation, Inpu
 use Rattle.circuit.specs.Words.{column}
 use Rattle.circuit.specs.Tree.{tree}
 use Rattle.circuit.specs.Outcomes.{refusal}
-use Rattle.read.specs.Readings.{degree⁺}
+use Rattle.reading.specs.Readings.{degree⁺}
 use Rattle.lowering.specs.Lowering.{Lowering, belowAbove, M, tooHigh, loop, lowered}
 use Rattle.lowering.specs.Calls.{testsThen, lowerCall, returned}
 use Rattle.lowering.specs.Demand.{Belongs, Demand3}

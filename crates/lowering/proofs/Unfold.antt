@@ -15,7 +15,7 @@ use Rattle.circuit.specs.declared.node.Op.{Op}
 use Rattle.circuit.specs.declared.node.Op.the-variants.{Add, Multiply}
 use Rattle.circuit.specs.Tree.{Leaf, baseLeaf, extensionLeaf, challengeLeaf, inputLeaf}
 use Rattle.circuit.specs.Words.{apply}
-use Rattle.read.specs.Readings.{leafDegree⁺, productDegree⁺}
+use Rattle.reading.specs.Readings.{leafDegree⁺, productDegree⁺}
 use Rattle.lowering.proofs.Shape.{Shape, lf, op, Look, Unf, pick, position-discrete, sub, degOp, deg, baseS, val, upd}
 use Rattle.lowering.proofs.Steps.{Fits}
 

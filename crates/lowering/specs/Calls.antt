@@ -7,8 +7,8 @@ use lib.Dec.{ltb}
 use Rattle.circuit.specs.Lists.{if_then_else_, written}
 use Rattle.circuit.specs.NotCircuit.{notCircuit, badId}
 use Rattle.circuit.specs.Outcomes.{Outcome, outcome}
-use Rattle.paths.specs.Refusals.{noRoom}
-use Rattle.read.specs.Refusals.{overDegree}
+use Rattle.walking.specs.Refusals.{noRoom}
+use Rattle.reading.specs.Refusals.{overDegree}
 use Rattle.lowering.specs.Lowering.{Lowering, M, tooHigh, lowered}
 use Rattle.lowering.specs.Refusals.{fullLowering, badColumns, loose, overOccurrences}
 

@@ -16,7 +16,7 @@ use Rattle.circuit.specs.Lists.{In}
 use Rattle.circuit.specs.Words.{used, limit, expressionAt}
 use Rattle.circuit.specs.Tree.{tree}
 use Rattle.circuit.specs.NotCircuit.{notCircuit}
-use Rattle.read.specs.Readings.{Assignment, degree⁺, value}
+use Rattle.reading.specs.Readings.{Assignment, degree⁺, value}
 use Rattle.lowering.specs.Lowering.{Lowering, M, tooHigh}
 
 -- each cell and challenge holds an element: of the base field in main columns, of the extension elsewhere

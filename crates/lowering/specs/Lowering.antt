@@ -10,8 +10,8 @@ use Rattle.circuit.specs.Lists.{if_then_else_, upTo, any, keep, each}
 use Rattle.circuit.specs.Words.{used, offset, word, registered}
 use Rattle.circuit.specs.Tree.{tree}
 use Rattle.building.specs.Building.{findOrMake, subtracted}
-use Rattle.paths.specs.Paths.{paths}
-use Rattle.read.specs.Readings.{degree⁺, above, isBase}
+use Rattle.walking.specs.Paths.{paths}
+use Rattle.reading.specs.Readings.{degree⁺, above, isBase}
 
 -- the nodes below the roots, roots included, with a degree above d; each id counts once. With the target for d, the high nodes
 unfoldable pub belowAbove : ℕ → List ℕ → List ℕ → List ℕ

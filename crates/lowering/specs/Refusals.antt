@@ -9,8 +9,8 @@ use Rattle.circuit.specs.declared.node.Expression.{Expression}
 use Rattle.circuit.specs.declared.node.Expression.the-variants.{Base, Extension, Challenge, Operation, Input}
 use Rattle.circuit.specs.Lists.{upTo, any}
 use Rattle.circuit.specs.Words.{used, limit, expressionAt, registered}
-use Rattle.paths.specs.Paths.{walks, paths}
-use Rattle.read.specs.Readings.{above}
+use Rattle.walking.specs.Paths.{walks, paths}
+use Rattle.reading.specs.Readings.{above}
 use Rattle.lowering.specs.Lowering.{belowAbove, M}
 
 -- 6: in lowering, fewer than 3·M free

@@ -17,7 +17,7 @@ use Rattle.circuit.specs.Rank.{at}
 use Rattle.circuit.proofs.Tests.{either, or-right, any-one, any-start, any-more}
 use Rattle.circuit.proofs.Lists.{clash, or-left, and-true, and-both, same-test, any-true}
 use Rattle.circuit.proofs.Valid.{valid-operands}
-use Rattle.paths.specs.Paths.{walk, walks, paths}
+use Rattle.walking.specs.Paths.{walk, walks, paths}
 use Rattle.paths.specs.Counting.{PathCounts}
 use Rattle.paths.proofs.Walks.{hit-same, paths-more, roots-first, from-step}
 use Rattle.paths.proofs.Counts.{counts-test}

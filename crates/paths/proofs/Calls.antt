@@ -17,9 +17,9 @@ use Rattle.circuit.specs.Rank.{at}
 use Rattle.circuit.proofs.Tests.{or-false, or-right, any-at}
 use Rattle.circuit.proofs.Lists.{or-left}
 use Rattle.circuit.proofs.Refusals.{refusal-none, refusal-here, refusal-next, outcome-accepted, outcome-refused, no-bad-id, bad-id-next}
-use Rattle.paths.specs.Paths.{walks, paths, countsUnder}
-use Rattle.paths.specs.Refusals.{overPaths, noRoom, repeated}
-use Rattle.paths.specs.Calls.{walkCall, counted, countCall, countsCall}
+use Rattle.walking.specs.Paths.{walks, paths, countsUnder}
+use Rattle.walking.specs.Refusals.{overPaths, noRoom, repeated}
+use Rattle.walking.specs.Calls.{walkCall, counted, countCall, countsCall}
 use Rattle.paths.specs.Counting.{PathCounts}
 use Rattle.paths.specs.Walking.{Walked}
 use Rattle.paths.specs.Rising.{put, putAll, Words, gathered}

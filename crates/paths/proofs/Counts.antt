@@ -16,7 +16,7 @@ use Rattle.circuit.specs.Words.{used}
 use Rattle.circuit.specs.NotCircuit.{notCircuit, badId}
 use Rattle.circuit.specs.Rank.{at, Sorted}
 use Rattle.circuit.proofs.Valid.{valid-room, limit-top}
-use Rattle.paths.specs.Paths.{paths}
+use Rattle.walking.specs.Paths.{paths}
 use Rattle.paths.specs.Counting.{over, PathCounts, Seeded, added, gave}
 use Rattle.paths.proofs.Sums.{sum-none, sum-start, sum-more}
 use Rattle.paths.proofs.Walks.{hit, step, count-append, step-below}

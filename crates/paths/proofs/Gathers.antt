@@ -15,7 +15,7 @@ use Rattle.circuit.specs.NotCircuit.{notCircuit, badId}
 use Rattle.circuit.specs.Tree.{tree}
 use Rattle.circuit.specs.Rank.{at}
 use Rattle.circuit.proofs.Tests.{below-or}
-use Rattle.paths.specs.Paths.{walk, walks, paths, countsUnder}
+use Rattle.walking.specs.Paths.{walk, walks, paths, countsUnder}
 use Rattle.paths.specs.Counting.{PathCounts}
 use Rattle.paths.specs.Rising.{Words, gathered}
 use Rattle.paths.proofs.Counts.{counts-test}

@@ -14,7 +14,7 @@ use Rattle.circuit.specs.NotCircuit.{notCircuit}
 use Rattle.circuit.specs.Tree.{tree}
 use Rattle.circuit.specs.Rank.{at, Sorted}
 use Rattle.circuit.proofs.Tests.{last-or}
-use Rattle.paths.specs.Paths.{walk, walks}
+use Rattle.walking.specs.Paths.{walk, walks}
 use Rattle.paths.specs.Walking.{Sizes}
 use Rattle.paths.proofs.Walks.{step, step-below, walk-step}
 use Rattle.paths.proofs.Uses.{ranks-fall}

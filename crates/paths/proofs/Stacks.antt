@@ -21,7 +21,7 @@ use Rattle.circuit.proofs.Tests.{neither, last-or}
 use Rattle.circuit.proofs.Lists.{clash}
 use Rattle.circuit.proofs.Trees.{tree-fixed}
 use Rattle.circuit.proofs.Valid.{valid-ends}
-use Rattle.paths.specs.Paths.{walk, walks}
+use Rattle.walking.specs.Paths.{walk, walks}
 use Rattle.paths.specs.Walking.{height, rightWalk, pending, Level, Stacked, Descending, Descended, Walking, Walked, WalkingAll}
 use Rattle.paths.proofs.Walks.{step, step-below, walk-step, roots-below}
 use Rattle.paths.proofs.Written.{sets-append}

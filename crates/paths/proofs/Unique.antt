@@ -5,12 +5,12 @@ use mathlib.Core.Path.{_≡_, refl, sym, ap, _∙_}
 use mathlib.Core.Logic.{_≢_}
 use mathlib.Core.List.{List}
 use Rattle.circuit.proofs.Unique.{one-outcome, same-number, same-values, same-lent}
-use Rattle.paths.specs.declared.Count.{Count}
-use Rattle.paths.specs.declared.Count.the-variants as count
-use Rattle.paths.specs.declared.Counted.{Counted}
-use Rattle.paths.specs.declared.Counted.the-variants as counted
-use Rattle.paths.specs.Calls.{walkCall, countCall, countsCall}
-use Rattle.paths.specs.Told.{toldCount, toldCounted}
+use Rattle.walking.specs.declared.Count.{Count}
+use Rattle.walking.specs.declared.Count.the-variants as count
+use Rattle.walking.specs.declared.Counted.{Counted}
+use Rattle.walking.specs.declared.Counted.the-variants as counted
+use Rattle.walking.specs.Calls.{walkCall, countCall, countsCall}
+use Rattle.walking.specs.Told.{toldCount, toldCounted}
 
 module _ {L : Type 0} where
   count-same : (r s : Count) (x y : L) → r ≢ count.Refused 0 → s ≢ count.Refused 0 → toldCount r x ≡ toldCount s y → r ≡ s

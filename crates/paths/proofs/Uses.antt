@@ -12,7 +12,7 @@ use Rattle.circuit.specs.Lists.{count}
 use Rattle.circuit.specs.Words.{used, expressionAt}
 use Rattle.circuit.specs.NotCircuit.{notCircuit, badId}
 use Rattle.circuit.specs.Rank.{at, Sorted}
-use Rattle.paths.specs.Paths.{paths}
+use Rattle.walking.specs.Paths.{paths}
 use Rattle.paths.proofs.Sums.{sum, sum-same, sum-none, sum-add, sum-one}
 use Rattle.paths.proofs.Walks.{hit, hit-same, hit-other, both, step-two, from, step, paths-none, paths-more, roots-first, from-step, step-below}
 

@@ -23,7 +23,7 @@ use Rattle.circuit.proofs.Trees.{tree-fixed}
 use Rattle.circuit.proofs.Valid.{valid-operands}
 use Rattle.circuit.proofs.Tests.{neither, or-false, or-right}
 use Rattle.circuit.proofs.Lists.{or-left}
-use Rattle.paths.specs.Paths.{walk, walks, paths}
+use Rattle.walking.specs.Paths.{walk, walks, paths}
 
 -- v if j is x
 abbrev pub hit : ℕ → ℕ → ℕ → ℕ

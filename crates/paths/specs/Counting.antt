@@ -10,7 +10,7 @@ use Rattle.circuit.specs.Lists.{count}
 use Rattle.circuit.specs.Words.{used}
 use Rattle.circuit.specs.NotCircuit.{notCircuit, badId}
 use Rattle.circuit.specs.Rank.{at, Sorted}
-use Rattle.paths.specs.Paths.{paths}
+use Rattle.walking.specs.Paths.{paths}
 
 -- one above the bound of path counts: more isn't told apart
 abbrev pub over : ℕ

@@ -1,10 +1,4 @@
--- Reading order: Paths, Refusals, Calls.
-pub mod Paths
-pub mod Refusals
-pub mod Calls
-pub mod Told
+-- What the inner functions ask and give. What the calls answer is the crate walking.
 pub mod Counting
 pub mod Walking
 pub mod Rising
-pub mod Computing
-pub mod Examples

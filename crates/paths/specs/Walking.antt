@@ -12,7 +12,7 @@ use Rattle.circuit.specs.NotCircuit.{notCircuit, badId}
 use Rattle.circuit.specs.Tree.{Tree, leaf, branch, tree}
 use Rattle.circuit.specs.Walk.{stepOf}
 use Rattle.circuit.specs.Rank.{at, Sorted}
-use Rattle.paths.specs.Paths.{walk, walks}
+use Rattle.walking.specs.Paths.{walk, walks}
 
 -- tree sizes, told apart up to the top
 pub record Sizes (m sizes : List ℕ) (top : ℕ) : Type 0 where

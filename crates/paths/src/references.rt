@@ -1,6 +1,4 @@
 // Reference counts: each node below the roots gets the number of paths from the roots to it.
-use crate::Count;
-use crate::Counted;
 use crate::counting::count_paths;
 use crate::ids::bad_id;
 use crate::rising::copy_words;
@@ -13,6 +11,8 @@ use circuit::refusal::NO_ROOM;
 use circuit::refusal::NOT_CIRCUIT;
 use circuit::refusal::PATHS;
 use circuit::refusal::REPEAT;
+use walking::Count;
+use walking::Counted;
 ghost use mathlib.Core.Path.{_≡_};
 ghost use Prim.Native.Nat.{ℕ, _+_, _<_, _≤_};
 ghost use lib.Dec.{ltb};
@@ -20,8 +20,8 @@ ghost use lib.ListN.{length};
 ghost use Rattle.circuit.specs.Lists.{any, upTo};
 ghost use Rattle.circuit.specs.Words.{used, offset};
 ghost use Rattle.circuit.specs.Rank.{at};
-ghost use Rattle.paths.specs.Calls.{countCall, countsCall};
-ghost use Rattle.paths.specs.Told.{toldCount, toldCounted};
+ghost use Rattle.walking.specs.Calls.{countCall, countsCall};
+ghost use Rattle.walking.specs.Told.{toldCount, toldCounted};
 ghost use Rattle.paths.specs.Rising.{Counting, put, putAll, Words, gathered, Gathering};
 
 // The bound of path counts.

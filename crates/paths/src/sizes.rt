@@ -6,7 +6,7 @@ ghost use mathlib.Core.Path.{_≡_};
 ghost use Prim.Native.Nat.{min};
 ghost use lib.ListN.{length};
 ghost use Rattle.circuit.specs.Tree.{tree};
-ghost use Rattle.paths.specs.Paths.{walk, walks};
+ghost use Rattle.walking.specs.Paths.{walk, walks};
 ghost use Rattle.paths.specs.Walking.{Sizes, Sizable, Sizing, Summing, Measuring};
 
 fn capped(sum: u64, top: u64) -> u64

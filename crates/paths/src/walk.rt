@@ -1,5 +1,4 @@
 // The in-order walk: left subtree, node, right subtree, repeated along each path. The lent stack holds the nodes whose left subtree is being walked.
-use crate::Count;
 use crate::counting::clear;
 use crate::counting::step_at;
 use crate::ids::bad_id;
@@ -9,19 +8,20 @@ use circuit::check::check;
 use circuit::refusal::BAD_ID;
 use circuit::refusal::NO_ROOM;
 use circuit::refusal::NOT_CIRCUIT;
+use walking::Count;
 ghost use mathlib.Core.Path.{_≡_};
 ghost use Rattle.circuit.specs.Words.{expressionAt};
 ghost use Rattle.circuit.specs.Tree.{tree};
 ghost use Rattle.circuit.specs.Walk.{stepOf};
-ghost use Rattle.paths.specs.Paths.{walks};
-ghost use Rattle.paths.specs.Calls.{walkCall};
-ghost use Rattle.paths.specs.Told.{toldCount};
+ghost use Rattle.walking.specs.Paths.{walks};
+ghost use Rattle.walking.specs.Calls.{walkCall};
+ghost use Rattle.walking.specs.Told.{toldCount};
 ghost use Rattle.paths.specs.Walking.{rightWalk, Descending, Descended, Walking, Walked, WalkingAll};
 
 // Pushes node i and its left lineage: how many stand on the stack then.
 fn descend(m: &[u64], stack: &mut [u64], i: u64, depth: u64) -> u64
     requires { ⌜ Descending (now m) (now stack) i depth ⌝ }
-    ensures { λ r. ⌜ Descended (now (m .entry)) (now (stack .entry)) (now (stack .exit)) (Rattle.paths.specs.Paths.walk (tree (now (m .entry)) i)) depth r ⌝ }
+    ensures { λ r. ⌜ Descended (now (m .entry)) (now (stack .entry)) (now (stack .exit)) (Rattle.walking.specs.Paths.walk (tree (now (m .entry)) i)) depth r ⌝ }
 {
     let mut node = i;
     let mut top = depth;
@@ -56,7 +56,7 @@ fn go_right(m: &[u64], stack: &mut [u64], i: u64, depth: u64) -> u64
 // Walks from one root, into the list from a place on: the place after.
 fn walk_root(m: &[u64], list: &mut [u64], stack: &mut [u64], root: u64, start: u64) -> u64
     requires { ⌜ Walking (now m) (now list) (now stack) root start ⌝ }
-    ensures { λ r. ⌜ Walked (now (m .entry)) (now (list .entry)) (now (stack .entry)) (now (list .exit)) (now (stack .exit)) (Rattle.paths.specs.Paths.walk (tree (now (m .entry)) root)) start r ⌝ }
+    ensures { λ r. ⌜ Walked (now (m .entry)) (now (list .entry)) (now (stack .entry)) (now (list .exit)) (now (stack .exit)) (Rattle.walking.specs.Paths.walk (tree (now (m .entry)) root)) start r ⌝ }
 {
     let mut at = start;
     let mut depth = descend(m, stack, root, 0);

@@ -13,7 +13,7 @@ use Rattle.circuit.specs.NotCircuit.{notCircuit}
 use Rattle.circuit.specs.Rank.{at}
 use Rattle.circuit.proofs.Valid.{valid-operands}
 use Rattle.read.specs.declared.step.Step.the-variants.{Stay, Two}
-use Rattle.read.specs.Readings.{leafDegree⁺, degree⁺}
+use Rattle.reading.specs.Readings.{leafDegree⁺, degree⁺}
 use Rattle.read.specs.Tables.{unknown, operandsOf, Filled}
 use Rattle.read.specs.Degrees.{top, degreeTo, degreeEntry, degreeJoin, Ordered, Joinable}
 use Rattle.read.proofs.Tables.{two-operation, unknown-step, answer-leaf, Filling, filling-next}

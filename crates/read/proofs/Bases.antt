@@ -8,7 +8,7 @@ use Rattle.circuit.specs.Lists.{bit}
 use Rattle.circuit.specs.Words.{used}
 use Rattle.circuit.specs.Tree.{tree}
 use Rattle.circuit.specs.NotCircuit.{notCircuit}
-use Rattle.read.specs.Readings.{leafIsBase, isBase}
+use Rattle.reading.specs.Readings.{leafIsBase, isBase}
 use Rattle.read.specs.Tables.{unknown, Filled, Right, itself}
 use Rattle.read.specs.Bases.{baseBit, baseEntry, baseStart, baseJoin}
 use Rattle.read.proofs.Tables.{Folds, Joined, answer-two, leaves-right}

@@ -14,7 +14,7 @@ use Rattle.circuit.specs.NotCircuit.{notCircuit}
 use Rattle.circuit.specs.Words.{used, expressionAt}
 use Rattle.circuit.specs.Lists.{if_then_else_}
 use Rattle.circuit.specs.Tree.{Leaf, baseLeaf, extensionLeaf, challengeLeaf, inputLeaf, Tree, branch}
-use Rattle.read.specs.Readings.{leafDegree⁺, productDegree⁺, degree⁺, signed}
+use Rattle.reading.specs.Readings.{leafDegree⁺, productDegree⁺, degree⁺, signed}
 use Rattle.read.specs.Tables.{unknown, Filled, Right, itself}
 use Rattle.read.specs.Degrees.{top, degreeTo, degreeEntry, degreeOver, degreeJoin}
 use Rattle.read.proofs.Tables.{Folds, Joined, answer-two, leaves-right}

@@ -18,13 +18,13 @@ use Rattle.circuit.specs.Calls.{reading}
 use Rattle.circuit.specs.Rank.{at}
 use Rattle.circuit.proofs.Tests.{below-or}
 use Rattle.circuit.proofs.Lists.{clash}
-use Rattle.paths.specs.Paths.{walks, paths}
+use Rattle.walking.specs.Paths.{walks, paths}
 use Rattle.paths.specs.Counting.{PathCounts}
 use Rattle.paths.proofs.Below.{any-in, any-walks, paths-in, root-below, walks-below}
 use Rattle.paths.proofs.Counts.{counts-test}
-use Rattle.read.specs.Readings.{degree⁺, signed, above, highest⁺}
-use Rattle.read.specs.Refusals.{overDegree}
-use Rattle.read.specs.Calls.{degreeCall, highestCall}
+use Rattle.reading.specs.Readings.{degree⁺, signed, above, highest⁺}
+use Rattle.reading.specs.Refusals.{overDegree}
+use Rattle.reading.specs.Calls.{degreeCall, highestCall}
 use Rattle.read.specs.Tables.{Filled}
 use Rattle.read.specs.Degrees.{top, degreeTo, overAt}
 use Rattle.read.proofs.Lists.{any-same, map-same}

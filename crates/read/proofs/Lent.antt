@@ -18,7 +18,7 @@ use Rattle.circuit.proofs.Tests.{neither, either}
 use Rattle.circuit.proofs.Valid.{valid-header}
 use Rattle.paths.specs.Counting.{PathCounts}
 use Rattle.paths.proofs.Below.{walks-one}
-use Rattle.read.specs.Refusals.{columnsLent, readsBeyond, badTable}
+use Rattle.reading.specs.Refusals.{columnsLent, readsBeyond, badTable}
 use Rattle.read.specs.Lent.{columnsOf, uneven, beyond, beyondAt}
 use Rattle.read.proofs.Highest.{any-below}
 

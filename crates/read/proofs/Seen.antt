@@ -17,14 +17,14 @@ use Rattle.circuit.specs.NotCircuit.{notCircuit, badId}
 use Rattle.circuit.specs.Rank.{at}
 use Rattle.circuit.proofs.Tests.{or-right, same-or, any-more, any-start}
 use Rattle.circuit.proofs.Lists.{same-test}
-use Rattle.paths.specs.Paths.{walks}
+use Rattle.walking.specs.Paths.{walks}
 use Rattle.paths.specs.Counting.{PathCounts}
 use Rattle.paths.proofs.Below.{walks-below}
 use Rattle.paths.proofs.Sums.{sum, sum-start, sum-more, sum-same, sum-none, sum-add, sum-one}
 use Rattle.classes.specs.Classes.{classOf}
 use Rattle.classes.specs.Find.{Sorting}
 use Rattle.classes.proofs.Finding.{class-least, class-law}
-use Rattle.read.specs.Readings.{visible}
+use Rattle.reading.specs.Readings.{visible}
 use Rattle.read.specs.Marks.{classAt, Marked, marks}
 use Rattle.read.proofs.Highest.{any-below}
 

@@ -8,14 +8,14 @@ use Rattle.circuit.specs.declared.calls.Counted.{Counted}
 use Rattle.circuit.specs.declared.calls.Counted.the-variants as counted
 use Rattle.circuit.specs.Answers.{toldCount}
 use Rattle.circuit.proofs.Unique.{one-outcome, same-number, same-values}
-use Rattle.read.specs.declared.answer.Test.{Test}
-use Rattle.read.specs.declared.answer.Test.the-variants as test
-use Rattle.read.specs.declared.answer.Degree.{Degree}
-use Rattle.read.specs.declared.answer.Degree.the-variants as degree
-use Rattle.read.specs.declared.answer.Value.{Value}
-use Rattle.read.specs.declared.answer.Value.the-variants as value
-use Rattle.read.specs.Calls.{isZeroCall, isOneCall, isMinusOneCall, degreeCall, highestCall, baseTestCall, evaluateCall, visibleCall}
-use Rattle.read.specs.Answers.{toldTest, toldDegree, toldValue}
+use Rattle.reading.specs.declared.answer.Test.{Test}
+use Rattle.reading.specs.declared.answer.Test.the-variants as test
+use Rattle.reading.specs.declared.answer.Degree.{Degree}
+use Rattle.reading.specs.declared.answer.Degree.the-variants as degree
+use Rattle.reading.specs.declared.answer.Value.{Value}
+use Rattle.reading.specs.declared.answer.Value.the-variants as value
+use Rattle.reading.specs.Calls.{isZeroCall, isOneCall, isMinusOneCall, degreeCall, highestCall, baseTestCall, evaluateCall, visibleCall}
+use Rattle.reading.specs.Answers.{toldTest, toldDegree, toldValue}
 
 test-same : (r s : Test) → r ≢ test.Refused 0 → s ≢ test.Refused 0 → toldTest r ≡ toldTest s → r ≡ s
 test-same (test.Answer x) (test.Answer y) p q e = ap test.Answer (same-values e)

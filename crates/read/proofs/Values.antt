@@ -15,8 +15,8 @@ use Rattle.circuit.specs.declared.node.Op.{Op}
 use Rattle.circuit.specs.Words.{used, apply}
 use Rattle.circuit.specs.NotCircuit.{notCircuit}
 use Rattle.read.specs.declared.step.Step.the-variants.{Two}
-use Rattle.read.specs.Readings.{Assignment, inputValue, leafValue, value}
-use Rattle.read.specs.Calls.{tripleAt, nextRow, assigned}
+use Rattle.reading.specs.Readings.{Assignment, inputValue, leafValue, value}
+use Rattle.reading.specs.Calls.{tripleAt, nextRow, assigned}
 use Rattle.read.specs.Tables.{unknown, stepAt, Filled, Right, Told, Roomy, Asked}
 use Rattle.read.specs.Values.{valueAt, valueEntry, valueStart, firstWord, putTriple}
 use Rattle.read.proofs.Tables.{Folds, Joined, answer-two, leaves-right, told-two, two-operation, Filling, filling-next}

@@ -6,7 +6,7 @@ use Rattle.circuit.specs.declared.node.Expression.{Expression}
 use Rattle.circuit.specs.Lists.{bit}
 use Rattle.circuit.specs.Words.{expressionAt}
 use Rattle.circuit.specs.Tree.{tree}
-use Rattle.read.specs.Readings.{leafIsBase, isBase}
+use Rattle.reading.specs.Readings.{leafIsBase, isBase}
 use Rattle.read.specs.Tables.{unknown, leafEntry}
 
 -- the base test of node i

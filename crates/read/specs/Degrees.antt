@@ -13,7 +13,7 @@ use Rattle.circuit.specs.Words.{used, expressionAt}
 use Rattle.circuit.specs.NotCircuit.{notCircuit}
 use Rattle.circuit.specs.Rank.{at, Sorted}
 use Rattle.circuit.specs.Tree.{tree}
-use Rattle.read.specs.Readings.{leafDegree⁺, productDegree⁺, degree⁺}
+use Rattle.reading.specs.Readings.{leafDegree⁺, productDegree⁺, degree⁺}
 use Rattle.read.specs.Tables.{unknown, leafEntry}
 
 -- one higher than the least degree over the bound: more isn't told apart

@@ -1,8 +1,4 @@
--- Reading order: Readings, Refusals, Calls, Answers. What follows is what the inner functions ask and give.
-pub mod Readings
-pub mod Refusals
-pub mod Calls
-pub mod Answers
+-- What the inner functions ask and give. What the calls answer is the crate reading.
 pub mod Tables
 pub mod Rooted
 pub mod Degrees
@@ -10,5 +6,3 @@ pub mod Bases
 pub mod Values
 pub mod Lent
 pub mod Marks
-pub mod Computing
-pub mod Examples

@@ -7,7 +7,7 @@ use Rattle.field.specs.Extension.{lift}
 use Rattle.circuit.specs.declared.node.Expression.{Expression}
 use Rattle.circuit.specs.Words.{used, expressionAt}
 use Rattle.circuit.specs.Tree.{tree}
-use Rattle.read.specs.Readings.{Assignment, leafValue, value}
+use Rattle.reading.specs.Readings.{Assignment, leafValue, value}
 use Rattle.read.specs.Tables.{unknown, leafEntry, Ranked}
 
 -- the value of node i

@@ -1,5 +1,4 @@
 // The base test: an operation passes when both operands do. In a table a test is a bit, 1 for yes.
-use crate::answer::Test;
 use crate::step::Step;
 use crate::step::UNKNOWN;
 use crate::step::step_at;
@@ -10,6 +9,7 @@ use circuit::node::Position;
 use circuit::place::expression_at;
 use circuit::refusal::BAD_ID;
 use circuit::refusal::NOT_CIRCUIT;
+use reading::answer::Test;
 ghost use mathlib.Core.Path.{_≡_};
 ghost use Rattle.circuit.specs.Lists.{bit};
 ghost use Prim.Native.Nat.{_<_};
@@ -17,9 +17,9 @@ ghost use Rattle.circuit.specs.Words.{used, isMain};
 ghost use Rattle.circuit.specs.Tree.{tree};
 ghost use Rattle.circuit.specs.Rank.{at};
 ghost use Rattle.read.specs.Tables.{Filled, Right, Told, Roomy, Ranked, Asked, AllAsked, itself};
-ghost use Rattle.read.specs.Readings.{isBase};
-ghost use Rattle.read.specs.Calls.{baseTestCall};
-ghost use Rattle.read.specs.Answers.{toldTest};
+ghost use Rattle.reading.specs.Readings.{isBase};
+ghost use Rattle.reading.specs.Calls.{baseTestCall};
+ghost use Rattle.reading.specs.Answers.{toldTest};
 ghost use Rattle.read.specs.Bases.{baseBit, baseEntry, baseStart, baseJoin};
 
 fn main_bit(q: Position) -> u64

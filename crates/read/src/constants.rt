@@ -1,17 +1,17 @@
 // The tests for 0, 1 and -1.
-use crate::answer::Test;
 use circuit::calls::is_circuit;
 use circuit::node::Expression;
 use circuit::place::expression_at;
 use circuit::refusal::BAD_ID;
 use circuit::refusal::NOT_CIRCUIT;
 use field::extension;
+use reading::answer::Test;
 ghost use mathlib.Core.Path.{_≡_};
 ghost use Prim.Native.Nat.{_+_, _≤_};
 ghost use lib.ListN.{length};
 ghost use Rattle.circuit.specs.Words.{offset, constantIs, isConstant};
-ghost use Rattle.read.specs.Calls.{constantCall, isZeroCall, isOneCall, isMinusOneCall};
-ghost use Rattle.read.specs.Answers.{toldTest};
+ghost use Rattle.reading.specs.Calls.{constantCall, isZeroCall, isOneCall, isMinusOneCall};
+ghost use Rattle.reading.specs.Answers.{toldTest};
 
 // p - 1
 const MINUS_ONE: u64 = 18446744069414584320;

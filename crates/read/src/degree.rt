@@ -1,5 +1,4 @@
 // Degrees, as document 01 has them: add the larger, multiply the sum, or -1 if either is -1. Inside they are one higher, so that -1 is 0.
-use crate::answer::Degree;
 use crate::step::Step;
 use crate::step::UNKNOWN;
 use crate::step::operands_of;
@@ -14,6 +13,7 @@ use circuit::refusal::NOT_CIRCUIT;
 use field::extension;
 use paths::counting::count_paths;
 use paths::ids::bad_id;
+use reading::answer::Degree;
 ghost use mathlib.Core.Path.{_≡_};
 ghost use mathlib.Core.Bool.{_&&_};
 ghost use mathlib.Core.List.{map, foldr};
@@ -23,9 +23,9 @@ ghost use Rattle.circuit.specs.Words.{used};
 ghost use Rattle.circuit.specs.Rank.{at};
 ghost use Rattle.read.specs.Tables.{Filled, Right, Told, Roomy, Asked, AllAsked, itself};
 ghost use Rattle.circuit.specs.Lists.{any, upTo};
-ghost use Rattle.read.specs.Readings.{signed};
-ghost use Rattle.read.specs.Calls.{degreeCall, highestCall};
-ghost use Rattle.read.specs.Answers.{toldDegree};
+ghost use Rattle.reading.specs.Readings.{signed};
+ghost use Rattle.reading.specs.Calls.{degreeCall, highestCall};
+ghost use Rattle.reading.specs.Answers.{toldDegree};
 ghost use Rattle.read.specs.Rooted.{Rooted};
 ghost use Rattle.read.specs.Degrees.{overAt, Counted, Rows, Ordered, Joinable, top, degreeTo, degreeEntry, degreeStart, degreeJoin};
 

@@ -1,5 +1,4 @@
-// Readings of a circuit: document 01, "Readings".
-pub mod answer;
+// Readings of a circuit: document 01, "Readings". Its definitions are the crate reading.
 pub mod base_test;
 pub mod constants;
 pub mod degree;

@@ -10,7 +10,7 @@ ghost use Prim.Native.Nat.{_<_};
 ghost use Rattle.circuit.specs.Lists.{any, upTo};
 ghost use Rattle.circuit.specs.Words.{used};
 ghost use Rattle.circuit.specs.NotCircuit.{notCircuit, badWord};
-ghost use Rattle.read.specs.Refusals.{badTable};
+ghost use Rattle.reading.specs.Refusals.{badTable};
 ghost use Rattle.read.specs.Lent.{columnsOf, uneven, beyond, beyondAt, Pathed, PathedFrom};
 
 // How many columns one row has: a main table is one word a column, an auxiliary table three; and how many challenges there are.

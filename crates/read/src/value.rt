@@ -1,5 +1,4 @@
 // Values on lent tables. A main table is one word a column, an auxiliary table or challenge list three; a dual table holds two rows.
-use crate::answer::Value;
 use crate::step::Step;
 use crate::step::UNKNOWN;
 use crate::step::step_at;
@@ -17,6 +16,7 @@ use circuit::refusal::TABLE;
 use field::extension;
 use field::extension::Triple;
 use paths::counting::count_paths;
+use reading::answer::Value;
 ghost use mathlib.Core.Path.{_≡_};
 ghost use mathlib.Core.List.{[]};
 ghost use Prim.Native.Nat.{_+_, _*_, _<_};
@@ -24,9 +24,9 @@ ghost use lib.ListN.{length, getD};
 ghost use Rattle.field.specs.Extension.{lift};
 ghost use Rattle.circuit.specs.Words.{used, apply};
 ghost use Rattle.circuit.specs.Tree.{tree};
-ghost use Rattle.read.specs.Readings.{Assignment, inputValue, value};
-ghost use Rattle.read.specs.Calls.{tripleAt, assigned, evaluateCall};
-ghost use Rattle.read.specs.Answers.{toldValue};
+ghost use Rattle.reading.specs.Readings.{Assignment, inputValue, value};
+ghost use Rattle.reading.specs.Calls.{tripleAt, assigned, evaluateCall};
+ghost use Rattle.reading.specs.Answers.{toldValue};
 ghost use Rattle.read.specs.Tables.{Filled, Right, Told, Roomy, Asked};
 ghost use Rattle.read.specs.Values.{valueAt, valueEntry, valueStart, firstWord, putTriple, Evaluable, Findable};
 

@@ -11,8 +11,8 @@ ghost use Prim.Native.Nat.{_≤_};
 ghost use lib.ListN.{length};
 ghost use Rattle.circuit.specs.Words.{used};
 ghost use Rattle.circuit.specs.Answers.{toldCount};
-ghost use Rattle.read.specs.Readings.{visible};
-ghost use Rattle.read.specs.Calls.{visibleCall};
+ghost use Rattle.reading.specs.Readings.{visible};
+ghost use Rattle.reading.specs.Calls.{visibleCall};
 ghost use Rattle.read.specs.Rooted.{Rooted};
 ghost use Rattle.read.specs.Marks.{Marked, Markable, marks};
 

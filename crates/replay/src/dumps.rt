@@ -27,12 +27,12 @@ use circuit::calls;
 use circuit::calls::Counted;
 use circuit::calls::NodeRead;
 use field::base;
-use paths::Count;
 use paths::references::count_references;
 use paths::references::distinct_counts;
 use paths::walk::walk;
 use read::degree::highest;
 use read::visible::visible;
+use walking::Count;
 
 fn compare_count(t: &mut [u64], c: Counted, want: u64) {
     match c {
@@ -144,8 +144,8 @@ pub(crate) fn counted(t: &mut [u64], m: &mut [u64], roots: &[u64], line: &[u8]) 
     put(t, COUNTED, 0);
     let r = count_references(m, listed(roots));
     match r {
-        paths::Counted::Written => compare(t, 0, number(line, 1, 1)),
-        paths::Counted::Refused(n) => compare(t, n, number(line, 1, 1)),
+        walking::Counted::Written => compare(t, 0, number(line, 1, 1)),
+        walking::Counted::Refused(n) => compare(t, n, number(line, 1, 1)),
     }
 }
 

@@ -36,15 +36,15 @@ use classes::Equal;
 use classes::calls::equal;
 use field::extension::Triple;
 use field::extension::lift;
-use read::answer::Degree;
-use read::answer::Test;
-use read::answer::Value;
 use read::base_test::base_test;
 use read::constants::is_minus_one;
 use read::constants::is_one;
 use read::constants::is_zero;
 use read::degree::degree;
 use read::value::evaluate;
+use reading::answer::Degree;
+use reading::answer::Test;
+use reading::answer::Value;
 
 // How many digits an expression of this kind takes.
 fn width(kind: u64) -> usize {

@@ -4,7 +4,7 @@ use frame::digits;
 ghost use mathlib.Core.Path.{_≡_};
 ghost use Prim.Native.Nat.{_≤_};
 ghost use lib.ListN.{drop, getD};
-ghost use Rattle.frame.specs.Digits.{bytesOf, numberAt};
+ghost use Rattle.framing.specs.Digits.{bytesOf, numberAt};
 
 // Character i of a line.
 pub(crate) fn byte_at(s: &[u8], i: usize) -> u8

@@ -10,11 +10,11 @@ use lib.Dec.{ltb, eqb}
 use borrow.Author.Tests.{lt-ltb, le-ltb, eq-eqb, ne-eqb}
 use borrow.Rule.Slice.PartMut.{midOf, putMid}
 use Rattle.circuit.specs.Lists.{if_then_else_}
-use Rattle.frame.specs.Digits.{hexadecimal}
-use Rattle.frame.specs.Requests.{requestOf}
-use Rattle.frame.specs.States.{State}
-use Rattle.frame.specs.Answers.{replied, replyBytes}
-use Rattle.frame.specs.Frames.{Framed, lineAnswer, answerLine, framed, frameCall}
+use Rattle.framing.specs.Digits.{hexadecimal}
+use Rattle.framing.specs.Requests.{requestOf}
+use Rattle.framing.specs.States.{State}
+use Rattle.framing.specs.Answers.{replied, replyBytes}
+use Rattle.framing.specs.Frames.{Framed, lineAnswer, answerLine, framed, frameCall}
 use Rattle.frame.specs.Puts.{Put}
 use Rattle.frame.proofs.Writing.{put-then, put-none, length-hexadecimal, reply-short}
 use Rattle.stream.specs.Stream.{Stream, stream, Fed, keptWith, fedOne, fed, room, AnsweredLine, Advanced, Poured}
@@ -116,11 +116,14 @@ module _ (x : Stream) (part out : List ℕ) where
         }
 
 -- what is lent keeps its length
-pub record Lengths (m₀ roots₀ main₀ aux₀ line₀ out₀ m roots main aux line out : List ℕ) : Type 0 where
+pub record Lengths (m₀ roots₀ main₀ aux₀ numbers₀ table₀ least₀ line₀ out₀ m roots main aux numbers table least line out : List ℕ) : Type 0 where
   pub m-kept : length m ≡ length m₀
   pub roots-kept : length roots ≡ length roots₀
   pub main-kept : length main ≡ length main₀
   pub aux-kept : length aux ≡ length aux₀
+  pub numbers-kept : length numbers ≡ length numbers₀
+  pub table-kept : length table ≡ length table₀
+  pub least-kept : length least ≡ length least₀
   pub line-kept : length line ≡ length line₀
   pub out-kept : length out ≡ length out₀
 

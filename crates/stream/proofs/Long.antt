@@ -11,12 +11,12 @@ use lib.Dec.{eqb}
 use borrow.Author.Tests.{ne-eqb}
 use Rattle.circuit.specs.declared.node.Op.the-variants.{Add, Multiply}
 use Rattle.circuit.specs.Lists.{if_then_else_, all}
-use Rattle.frame.specs.declared.request.Request.{Request}
-use Rattle.frame.specs.declared.request.Request.the-variants.{Start, Input, Challenge, Base, Extension, Operation, Subtract, Negate, Root, Lower, Nothing}
-use Rattle.frame.specs.Digits.{isDigit, bytesOf, numberAt}
-use Rattle.frame.specs.Requests.{form, tripleAt, formBy, formOf, requestOf}
-use Rattle.frame.specs.States.{State}
-use Rattle.frame.specs.Frames.{lineAnswer}
+use Rattle.framing.specs.declared.Request.{Request}
+use Rattle.framing.specs.declared.Request.the-variants.{Start, Input, Challenge, Base, Extension, Operation, Subtract, Negate, Root, Lower, Nothing}
+use Rattle.framing.specs.Digits.{isDigit, bytesOf, numberAt}
+use Rattle.framing.specs.Requests.{form, tripleAt, formBy, formOf, requestOf}
+use Rattle.framing.specs.States.{State}
+use Rattle.framing.specs.Frames.{lineAnswer}
 
 -- no frame has more than 25 bytes
 lengths : (b0 b1 b2 b3 b4 b5 b6 b7 b8 b9 b10 : Bool) (q0 q1 q2 q3 q4 q5 q6 q7 q8 q9 q10 : Request) → (if b0 then form 2 q0 else if b1 then form 4 q1 else if b2 then form 3 q2 else if b3 then form 9 q3 else if b4 then form 25 q4 else if b5 then form 5 q5 else if b6 then form 5 q6 else if b7 then form 5 q7 else if b8 then form 3 q8 else if b9 then form 3 q9 else if b10 then form 7 q10 else form 0 Nothing) .0 ≤ 25

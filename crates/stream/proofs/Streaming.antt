@@ -10,8 +10,8 @@ use lib.Seq.{take-all, take-suc, take-append-le, append-snoc}
 use lib.Dec.{ltb, eqb}
 use borrow.Author.Tests.{ltb-true, ltb-false}
 use Rattle.circuit.specs.Lists.{if_then_else_}
-use Rattle.frame.specs.States.{State, fresh}
-use Rattle.frame.specs.Frames.{Answered, lineAnswer, answerLine, begin, lines, answers, frames}
+use Rattle.framing.specs.States.{State, fresh}
+use Rattle.framing.specs.Frames.{Answered, lineAnswer, answerLine, begin, lines, answers, frames}
 use Rattle.stream.specs.Stream.{Stream, stream, Fed, keptWith, fedOne, fed, start, endedWith, ended}
 use Rattle.stream.proofs.Long.{first-51}
 

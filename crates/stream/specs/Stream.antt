@@ -5,8 +5,8 @@ use mathlib.Core.List.{List, [], _∷_, _++_}
 use lib.ListN.{length, take}
 use lib.Dec.{ltb, eqb}
 use Rattle.circuit.specs.Lists.{if_then_else_}
-use Rattle.frame.specs.States.{State, fresh}
-use Rattle.frame.specs.Frames.{lineAnswer, answerLine}
+use Rattle.framing.specs.States.{State, fresh}
+use Rattle.framing.specs.Frames.{lineAnswer, answerLine}
 use Rattle.frame.specs.Puts.{Put}
 
 -- the state, and what is kept of a line that has not ended

@@ -2,7 +2,7 @@ use Prim.Native.Nat.{ℕ, _-_, _≤_}
 use mathlib.Core.Path.{_≡_, refl, sym, ap, _∙_}
 use native.Mathlib.Omega.{arith}
 use borrow.Author.Needs.{needs}
-use Rattle.frame.specs.Digits.{bytesOf, numberAt}
+use Rattle.framing.specs.Digits.{bytesOf, numberAt}
 use Rattle.frame.proofs.Hexadecimal.{byte-small, number-none, number-small, number-again, number-done}
 use Rattle.frame.proofs.digits.number.Statement.{statement}
 use Rattle.frame.proofs.digits.number.Tie as tie

@@ -1,5 +1,5 @@
 use Rattle.frame.proofs.Writing.{put-then}
-use Rattle.frame.specs.Digits.{hexadecimal}
+use Rattle.framing.specs.Digits.{hexadecimal}
 use borrow.Author.Needs.{needs}
 use Rattle.frame.proofs.reply.put_byte.Statement.{statement}
 use Rattle.frame.proofs.reply.put_byte.Tie as tie

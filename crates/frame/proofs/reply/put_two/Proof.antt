@@ -1,6 +1,6 @@
 use native.Mathlib.Omega.{arith}
 use Rattle.frame.proofs.Writing.{put-then}
-use Rattle.frame.specs.Digits.{hexadecimal, two}
+use Rattle.framing.specs.Digits.{hexadecimal, two}
 use borrow.Author.Needs.{needs}
 use Rattle.frame.proofs.reply.put_two.Statement.{statement}
 use Rattle.frame.proofs.reply.put_two.Tie as tie

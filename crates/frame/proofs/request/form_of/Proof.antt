@@ -1,5 +1,5 @@
 use native.Mathlib.Omega.{arith}
-use Rattle.frame.specs.Requests.{formBy}
+use Rattle.framing.specs.Requests.{formBy}
 use Rattle.frame.proofs.Reading.{form-picked, form-other}
 use borrow.Author.Needs.{needs}
 use Rattle.frame.proofs.request.form_of.Statement.{statement}

@@ -1,5 +1,5 @@
 use mathlib.Core.Path.{refl}
-use Rattle.frame.specs.Answers.{answered}
+use Rattle.framing.specs.Answers.{answered}
 use Rattle.frame.proofs.Responding.{id-told, answers-to}
 use borrow.Author.Needs.{needs}
 use Rattle.frame.proofs.respond.answer_to.Statement.{statement}

@@ -1,5 +1,5 @@
 use mathlib.Core.Path.{sym, ap}
-use Rattle.frame.specs.Answers.{countsReply}
+use Rattle.framing.specs.Answers.{countsReply}
 use borrow.Author.Needs.{needs}
 use Rattle.frame.proofs.respond.counts_of.Statement.{statement}
 use Rattle.frame.proofs.respond.counts_of.Tie as tie

@@ -1,5 +1,5 @@
 use mathlib.Core.Path.{sym, ap}
-use Rattle.frame.specs.Answers.{idReply}
+use Rattle.framing.specs.Answers.{idReply}
 use borrow.Author.Needs.{needs}
 use Rattle.frame.proofs.respond.id_of.Statement.{statement}
 use Rattle.frame.proofs.respond.id_of.Tie as tie

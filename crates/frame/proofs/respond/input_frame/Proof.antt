@@ -1,4 +1,4 @@
-use Rattle.frame.specs.Answers.{inputAnswer}
+use Rattle.framing.specs.Answers.{inputAnswer}
 use Rattle.frame.proofs.Responding.{id-told, input-picked, input-other}
 use borrow.Author.Needs.{needs}
 use Rattle.frame.proofs.respond.input_frame.Statement.{statement}

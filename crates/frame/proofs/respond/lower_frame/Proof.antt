@@ -1,6 +1,6 @@
 use mathlib.Core.Path.{_∙_}
 use native.Mathlib.Omega.{arith}
-use Rattle.frame.specs.States.{rootRoom, rootCount}
+use Rattle.framing.specs.States.{rootRoom, rootCount}
 use Rattle.frame.proofs.Responding.{lower-told, lower-empty, roots-part, roots-back}
 use borrow.Author.Needs.{needs}
 use Rattle.frame.proofs.respond.lower_frame.Statement.{statement}

@@ -1,4 +1,4 @@
-use Rattle.frame.specs.Answers.{startAnswer}
+use Rattle.framing.specs.Answers.{startAnswer}
 use Rattle.frame.proofs.Responding.{start-picked, start-other}
 use borrow.Author.Needs.{needs}
 use Rattle.frame.proofs.respond.start_frame.Statement.{statement}

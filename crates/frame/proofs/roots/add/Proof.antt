@@ -1,5 +1,5 @@
 use native.Mathlib.Omega.{arith}
-use Rattle.frame.specs.States.{rootRoom, rootCount, withRoot}
+use Rattle.framing.specs.States.{rootRoom, rootCount, withRoot}
 use lib.ListN.{length-set}
 use borrow.Author.Needs.{needs}
 use Rattle.frame.proofs.roots.add.Statement.{statement}

@@ -1,5 +1,5 @@
 use native.Mathlib.Omega.{arith}
-use Rattle.frame.specs.States.{rootRoom, rootCount}
+use Rattle.framing.specs.States.{rootRoom, rootCount}
 use borrow.Author.Needs.{needs}
 use Rattle.frame.proofs.roots.count_of.Statement.{statement}
 use Rattle.frame.proofs.roots.count_of.Tie as tie

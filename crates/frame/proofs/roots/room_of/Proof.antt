@@ -1,5 +1,5 @@
 use native.Mathlib.Omega.{arith}
-use Rattle.frame.specs.States.{rootRoom}
+use Rattle.framing.specs.States.{rootRoom}
 use borrow.Author.Needs.{needs}
 use Rattle.frame.proofs.roots.room_of.Statement.{statement}
 use Rattle.frame.proofs.roots.room_of.Tie as tie

@@ -3,7 +3,7 @@ use mathlib.Core.Path.{_≡_}
 use native.Mathlib.Omega.{arith}
 use lib.ListN.{length, take}
 use borrow.Author.Needs.{needs}
-use Rattle.paths.specs.Paths.{walks}
+use Rattle.walking.specs.Paths.{walks}
 use Rattle.paths.proofs.Walks.{roots-below}
 use Rattle.paths.proofs.Lengths.{sum-zero, sum-next, sum-done}
 use Rattle.paths.proofs.sizes.sum_sizes.Statement.{statement}

@@ -1,7 +1,7 @@
 use Rattle.read.proofs.Lists.{good-id}
 use Rattle.read.proofs.Bases.{bit-test}
 use Rattle.read.proofs.Tables.{sorted-ranked}
-use Rattle.read.specs.Calls.{baseTestCall}
+use Rattle.reading.specs.Calls.{baseTestCall}
 use Rattle.paths.proofs.Counts.{valid-top}
 use Rattle.circuit.proofs.Refusals.{refuses, accepts, refusal-none, reading-no-circuit, reading-bad-id, reading-accepted, bad-id-here}
 use Rattle.circuit.proofs.Valid.{valid-length}

@@ -1,4 +1,4 @@
-use Rattle.read.specs.Calls.{constantCall}
+use Rattle.reading.specs.Calls.{constantCall}
 use Rattle.read.proofs.Lists.{good-id}
 use Rattle.circuit.proofs.Refusals.{refuses, accepts, refusal-none, reading-no-circuit, reading-bad-id, reading-accepted, bad-id-here}
 use Rattle.circuit.proofs.Valid.{valid-length, valid-fits}

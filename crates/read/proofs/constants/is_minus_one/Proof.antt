@@ -1,4 +1,4 @@
-use Rattle.read.specs.Calls.{isMinusOneCall}
+use Rattle.reading.specs.Calls.{isMinusOneCall}
 use borrow.Author.Needs.{needs}
 use Rattle.read.proofs.constants.is_minus_one.Statement.{statement}
 use Rattle.read.proofs.constants.is_minus_one.Tie as tie

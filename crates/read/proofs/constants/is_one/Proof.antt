@@ -1,4 +1,4 @@
-use Rattle.read.specs.Calls.{isOneCall}
+use Rattle.reading.specs.Calls.{isOneCall}
 use borrow.Author.Needs.{needs}
 use Rattle.read.proofs.constants.is_one.Statement.{statement}
 use Rattle.read.proofs.constants.is_one.Tie as tie

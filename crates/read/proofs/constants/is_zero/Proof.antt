@@ -1,4 +1,4 @@
-use Rattle.read.specs.Calls.{isZeroCall}
+use Rattle.reading.specs.Calls.{isZeroCall}
 use borrow.Author.Needs.{needs}
 use Rattle.read.proofs.constants.is_zero.Statement.{statement}
 use Rattle.read.proofs.constants.is_zero.Tie as tie

@@ -1,4 +1,4 @@
-use Rattle.read.specs.Calls.{highestCall}
+use Rattle.reading.specs.Calls.{highestCall}
 use Rattle.circuit.proofs.Refusals.{refuses, accepts, reading-no-circuit, reading-bad-id}
 use Rattle.circuit.proofs.Valid.{valid-length}
 use native.Mathlib.Omega.{arith}

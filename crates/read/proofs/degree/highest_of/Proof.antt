@@ -1,7 +1,7 @@
 use Rattle.read.proofs.Highest.{over-told, highest-told, highest-small}
 use Rattle.read.proofs.Tables.{sorted-ranked}
-use Rattle.read.specs.Calls.{highestCall}
-use Rattle.read.specs.Readings.{signed}
+use Rattle.reading.specs.Calls.{highestCall}
+use Rattle.reading.specs.Readings.{signed}
 use Rattle.paths.proofs.Walks.{roots-below}
 use Rattle.paths.proofs.Counts.{valid-top}
 use Rattle.circuit.proofs.Refusals.{refusal-none, refusal-here, refusal-next, reading-refused, reading-accepted}

@@ -1,4 +1,4 @@
-use Rattle.read.specs.Calls.{tripleAt}
+use Rattle.reading.specs.Calls.{tripleAt}
 use mathlib.Core.Path.{refl}
 use borrow.Author.Needs.{needs}
 use Rattle.read.proofs.value.entry_at.Statement.{statement}

@@ -1,6 +1,6 @@
 use Rattle.read.proofs.Lists.{good-id}
 use Rattle.read.proofs.Tables.{sorted-ranked}
-use Rattle.read.specs.Calls.{evaluateCall}
+use Rattle.reading.specs.Calls.{evaluateCall}
 use Rattle.paths.proofs.Counts.{valid-top}
 use Rattle.circuit.proofs.Refusals.{refuses, accepts, refusal-none, refusal-here, refusal-next, reading-no-circuit, reading-bad-id, reading-refused, reading-accepted, bad-id-here}
 use Rattle.circuit.proofs.Valid.{valid-length}

@@ -1,5 +1,5 @@
 use Rattle.read.proofs.Values.{second-half}
-use Rattle.read.specs.Calls.{assigned}
+use Rattle.reading.specs.Calls.{assigned}
 use borrow.Author.Needs.{needs}
 use Rattle.read.proofs.value.input_value.Statement.{statement}
 use Rattle.read.proofs.value.input_value.Tie as tie

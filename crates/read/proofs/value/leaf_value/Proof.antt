@@ -1,7 +1,7 @@
 use mathlib.Core.List.{[]}
 use Rattle.read.proofs.Values.{input-tables}
 use Rattle.read.specs.Values.{valueEntry}
-use Rattle.read.specs.Calls.{assigned}
+use Rattle.reading.specs.Calls.{assigned}
 use mathlib.Core.Path.{_∙_}
 use borrow.Author.Needs.{needs}
 use Rattle.read.proofs.value.leaf_value.Statement.{statement}

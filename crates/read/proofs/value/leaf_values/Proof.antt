@@ -1,7 +1,7 @@
 use Rattle.read.proofs.Values.{filling-triple}
 use Rattle.read.proofs.Tables.{Filling, filling-start, filling-done}
 use Rattle.read.specs.Values.{valueStart, valueEntry}
-use Rattle.read.specs.Calls.{tripleAt, assigned}
+use Rattle.reading.specs.Calls.{tripleAt, assigned}
 use Rattle.circuit.proofs.Valid.{valid-length, valid-fits}
 use Rattle.circuit.specs.Words.{used}
 use mathlib.Core.Path.{refl, ap, _∙_}

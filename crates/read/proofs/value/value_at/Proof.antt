@@ -1,6 +1,6 @@
 use Rattle.read.proofs.Values.{value-leaves}
 use Rattle.read.specs.Values.{valueAt}
-use Rattle.read.specs.Calls.{assigned}
+use Rattle.reading.specs.Calls.{assigned}
 use Rattle.paths.proofs.Counts.{valid-top}
 use mathlib.Core.Path.{_∙_}
 use native.Mathlib.Omega.{arith}

@@ -1,4 +1,4 @@
-use Rattle.read.specs.Calls.{visibleCall}
+use Rattle.reading.specs.Calls.{visibleCall}
 use Rattle.circuit.proofs.Refusals.{refuses, accepts, refusal-none, reading-no-circuit, reading-bad-id, reading-accepted}
 use Rattle.circuit.proofs.Valid.{valid-length}
 use native.Mathlib.Omega.{arith}

@@ -2,7 +2,7 @@ use Prim.Native.Nat.{ℕ}
 use mathlib.Core.List.{List}
 use mathlib.Core.Path.{ap, _∙_}
 use borrow.Author.Needs.{needs}
-use Rattle.frame.specs.Digits.{bytesOf, numberAt}
+use Rattle.framing.specs.Digits.{bytesOf, numberAt}
 use Rattle.replay.proofs.text.number.Statement.{statement}
 use Rattle.replay.proofs.text.number.Tie as tie
 

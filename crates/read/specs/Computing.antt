@@ -1,9 +1,0 @@
--- What a worked example of the readings computes with: a proof that says `unfolding readComputes` opens every definition at once. Assumes nothing.
-use Rattle.paths.specs.Computing.{pathsComputes}
-use Rattle.read.specs.Readings.{degree⁺, above, highest⁺, isBase, value, visible}
-use Rattle.read.specs.Refusals.{overDegree, columnsLent, badTable}
-use Rattle.read.specs.Calls.{constantCall, isZeroCall, isOneCall, isMinusOneCall, degreeCall, highestCall, baseTestCall, tripleAt, nextRow, assigned, evaluateCall, visibleCall}
-
-unfoldable pub readComputes : Unit {0}
-unfolding pathsComputes degree⁺ above highest⁺ isBase value visible overDegree columnsLent badTable constantCall isZeroCall isOneCall isMinusOneCall degreeCall highestCall baseTestCall tripleAt nextRow assigned evaluateCall visibleCall
-readComputes = tt
