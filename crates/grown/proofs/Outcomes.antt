@@ -1,5 +1,5 @@
 -- Each public call's contract can be met in one way only. Assumes nothing.
-use mathlib.Core.Path.{sym, _∙_}
+use mathlib.Core.Path.{sym, ap, _∙_}
 use Rattle.circuit.proofs.Unique.{start-once, read-once, used-once, free-once}
 use Rattle.classes.proofs.Unique.{equal-once}
 use Rattle.building.specs.Calls.{inputCall, challengeCall, baseCall, zeroCall, oneCall, minusOneCall, extensionCall, operationCall, subtractCall, negateCall, sumCall}
@@ -7,6 +7,7 @@ use Rattle.building.proofs.Once.{told-once}
 use Rattle.paths.proofs.Unique.{walk-once, count-once, counts-once}
 use Rattle.read.proofs.Unique.{is-zero-once, is-one-once, is-minus-one-once, base-test-once, degree-once, highest-once, evaluate-once, visible-once}
 use Rattle.lower.proofs.Once.{lower-once}
+use Rattle.framing.specs.Frames.{Framed}
 use Rattle.grown.specs.Outcomes.{Determined}
 
 pub determined : Determined
@@ -41,4 +42,5 @@ determined =
       evaluate = evaluate-once;
       visible = visible-once;
       lower = lower-once;
+      frame = λ s line answer n k x y a b e f. (ap (λ (o : Framed). o .written) (e ∙ sym f), (ap (λ (o : Framed). o .state) (e ∙ sym f), ap (λ (o : Framed). o .answer) (e ∙ sym f)));
     }

@@ -35,6 +35,8 @@ use Rattle.lowering.specs.declared.Lowered.the-variants as lower-answer
 use Rattle.lowering.specs.Lowering.{Lowering}
 use Rattle.lowering.specs.Calls.{lowerCall}
 use Rattle.lower.specs.Told.{toldLowering}
+use Rattle.framing.specs.States.{State}
+use Rattle.framing.specs.Frames.{framed, frameCall}
 
 -- two answers r and s, with the lent words x and y after them, that both tell the call's outcome are one answer and the same words. The one exception
 -- is an answer that no call gives: a refusal with no number tells what an accepted call with zero values tells
@@ -80,3 +82,5 @@ pub record Determined : Type 0 where
   pub visible : (m roots : List ℕ) → AnswersOnce toldCount (number-answer.Refused 0) (visibleCall m roots)
   -- lowering
   pub lower : (target mainCount auxCount : ℕ) (lent : Lowering) → Once toldLowering (lower-answer.Refused 0) (lowerCall target mainCount auxCount lent)
+  -- a line of the frame language: how many bytes its answer has, all that is kept, and the places lent for the answer
+  pub frame : (s : State) (line answer : List ℕ) (n k : ℕ) (x y : State) (a b : List ℕ) → framed n x a ≡ frameCall s line answer → framed k y b ≡ frameCall s line answer → (n ≡ k) × ((x ≡ y) × (a ≡ b))

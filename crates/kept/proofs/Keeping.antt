@@ -43,10 +43,10 @@ empty-circuit x Single l u k = rw (le-ltb (length x) 2 l, k, u, le-ltb (limit x)
 empty-circuit x Dual l u k = rw (le-ltb (length x) 2 l, k, u, le-ltb (limit x) 0 (omega arith))
 
 -- what is started is a circuit
-abbrev Startedly : List ℕ → Type 0
-Startedly m = (rowKind m ≡ 0 → ⊥) → notCircuit m ≡ false
+abbrev CircuitIfStarted : List ℕ → Type 0
+CircuitIfStarted m = (rowKind m ≡ 0 → ⊥) → notCircuit m ≡ false
 
-started : (m : List ℕ) (kind : RowKind) → rowKind m ≡ 0 → Startedly (startCall m kind .lent)
+started : (m : List ℕ) (kind : RowKind) → rowKind m ≡ 0 → CircuitIfStarted (startCall m kind .lent)
 unfolding startCall
 started m kind z = go (ltb (length m) 2) refl
   where
@@ -56,7 +56,7 @@ started m kind z = go (ltb (length m) 2) refl
     tests : List (ℕ × Bool)
     tests = (1, ltb (length m) 2) ∷ []
 
-    go : (b : Bool) → ltb (length m) 2 ≡ b → Startedly (outcome tests (tt {0}) x (tt {0}) m .lent)
+    go : (b : Bool) → ltb (length m) 2 ≡ b → CircuitIfStarted (outcome tests (tt {0}) x (tt {0}) m .lent)
     go true e = rw (outcome-refused tests (tt {0}) x (tt {0}) m 0 (refusal-here 1 _ [] e)) (λ h. absurd (h z))
     go false e =
         let l = ltb-false (length m) 2 e in
@@ -65,11 +65,11 @@ started m kind z = go (ltb (length m) 2) refl
         let k : rowKind x ≡ rowWord kind = getD-set-other (set m 0 (rowWord kind)) 1 0 0 0 (λ q. omega arith) ∙ getD-set-same m 0 (rowWord kind) 0 (omega arith) in
         rw (outcome-accepted tests (tt {0}) x (tt {0}) m (refusal-next 1 _ [] e ∙ refusal-none)) (λ h. empty-circuit x kind (omega arith) u k)
 
-pub start-renews : (m rs main aux : List ℕ) (kind : ℕ) (x : Replied) → rowKind m ≡ 0 → x ≡ startAnswer (lent m rs main aux) kind → Startedly (x .state .circuit)
+pub start-renews : (m rs main aux : List ℕ) (kind : ℕ) (x : Replied) → rowKind m ≡ 0 → x ≡ startAnswer (lent m rs main aux) kind → CircuitIfStarted (x .state .circuit)
 unfolding startAnswer startAs
 start-renews m rs main aux kind x z e = rw e (go (eqb kind 1) (eqb kind 2))
   where
-    go : (a b : Bool) → Startedly ((if a then startAs (lent m rs main aux) Single else if b then startAs (lent m rs main aux) Dual else told (Bare FRAME) m rs main aux) .state .circuit)
+    go : (a b : Bool) → CircuitIfStarted ((if a then startAs (lent m rs main aux) Single else if b then startAs (lent m rs main aux) Dual else told (Bare FRAME) m rs main aux) .state .circuit)
     go true b = started m Single z
     go false true = started m Dual z
     go false false = λ h. absurd (h z)
@@ -89,7 +89,7 @@ lower-valid target mainCount auxCount x h =
     (record { circuit = y .circuit; roots = y .roots; main = written (y .main) (x .main); aux = written (y .aux) (x .aux) }) (0, 0) x
     (λ e. in-place target mainCount auxCount x e .valid) h
 
-pub lower-renews : (m rs main aux : List ℕ) (target mainCount auxCount : ℕ) (x : Replied) → notCircuit m ≡ false → x ≡ lowerAnswer (lent m rs main aux) target mainCount auxCount → Startedly (x .state .circuit)
+pub lower-renews : (m rs main aux : List ℕ) (target mainCount auxCount : ℕ) (x : Replied) → notCircuit m ≡ false → x ≡ lowerAnswer (lent m rs main aux) target mainCount auxCount → CircuitIfStarted (x .state .circuit)
 unfolding lowerAnswer
 lower-renews m rs main aux target mainCount auxCount x h e k = rw e (lower-valid target mainCount auxCount (record { circuit = m; roots = rootsOf rs; main = main; aux = aux }) h)
 

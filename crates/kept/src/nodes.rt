@@ -38,7 +38,7 @@ fn leaf(
     answered(find_or_make(m, numbers, table, least, e))
 }
 
-pub fn input(
+pub(crate) fn input(
     m: &mut [u64],
     numbers: &mut [u64],
     table: &mut [u64],
@@ -57,7 +57,7 @@ pub fn input(
     leaf(m, numbers, table, least, Expression::Input(q))
 }
 
-pub fn challenge(
+pub(crate) fn challenge(
     m: &mut [u64],
     numbers: &mut [u64],
     table: &mut [u64],
@@ -73,7 +73,7 @@ pub fn challenge(
     leaf(m, numbers, table, least, Expression::Challenge(k))
 }
 
-pub fn base(
+pub(crate) fn base(
     m: &mut [u64],
     numbers: &mut [u64],
     table: &mut [u64],
@@ -89,7 +89,7 @@ pub fn base(
     leaf(m, numbers, table, least, Expression::Base(w))
 }
 
-pub fn extension(
+pub(crate) fn extension(
     m: &mut [u64],
     numbers: &mut [u64],
     table: &mut [u64],
@@ -106,7 +106,7 @@ pub fn extension(
 }
 
 // What is asked of two nodes, or of one as both.
-pub fn on_nodes(
+pub(crate) fn on_nodes(
     m: &mut [u64],
     numbers: &mut [u64],
     table: &mut [u64],

@@ -130,7 +130,7 @@ fn answer_to(
     }
 }
 
-pub fn respond(
+pub(crate) fn respond(
     m: &mut [u64],
     roots: &mut [u64],
     main: &mut [u64],
