@@ -22,7 +22,7 @@ HEAD = """-- Frozen answers of the Rust, computed by the definitions. Assumes no
 use Prim.Native.Nat.{ℕ}
 use mathlib.Core.List.{List, [], _∷_}
 use lib.Dec.{T}
-use Rattle.circuit.specs.Lists.{agree}
+use Rattle.layout.specs.Lists.{agree}
 use Rattle.framing.specs.Texts.{bytes, program, textsCompute}
 
 """
@@ -75,7 +75,7 @@ def main():
                 open(os.path.join(crate, 'specs', name + '.antt'), 'w').write(HEAD + body)
         open(os.path.join(crate, 'specs', 'Lib.antt'), 'w').write(''.join(f'pub mod {m}\n' for m in modules))
         with open(os.path.join(repo, 'crates.txt'), 'a') as f:
-            f.write('frozen: framing circuit field\n')
+            f.write('frozen: framing layout arithmetic\n')
         out = subprocess.run(['rt', 'check', 'frozen'], cwd=repo, capture_output=True, text=True)
         lines = [l for l in (out.stdout + out.stderr).split('\n') if 'error' in l or l.startswith('rt: ')]
         print('\n'.join(l[:300].replace(work, '') for l in lines))

@@ -3,7 +3,7 @@
 #   bench/circuit/measure.sh
 here=$(cd "$(dirname "$0")" && pwd)
 . "$here/../shared/prepare.sh"
-prepare circuitbench field circuit
+prepare circuitbench arithmetic field layout circuit
 
 echo "kind nodes instructions (answer)"
 for kind in grown chain cycle; do

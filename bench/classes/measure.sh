@@ -3,7 +3,7 @@
 #   bench/classes/measure.sh
 here=$(cd "$(dirname "$0")" && pwd)
 . "$here/../shared/prepare.sh"
-prepare classbench field circuit classes
+prepare classbench arithmetic field layout circuit classes
 
 echo "kind nodes check equal classes"
 for of in "grown 500" "grown 1000" "grown 2000" "grown 4000" "chain 500" "chain 1000" "chain 2000" "chain 4000" "grid 500" "grid 1000" "grid 2000" "grid 4000" "towers 402"; do

@@ -14,10 +14,10 @@ trap 'rm -rf "$work"' EXIT
 
 # A repository of its own: building, and a crate that exports its inner calls. They ask what the inner forms ask, so they are no part of the library.
 mkdir -p "$work/crates/inner/src" "$here/target/inner"
-for crate in field circuit classes building build; do cp -r "$repo/crates/$crate" "$work/crates/"; done
+for crate in arithmetic field layout circuit classes building build; do cp -r "$repo/crates/$crate" "$work/crates/"; done
 cp "$here/inner.rt.txt" "$work/crates/inner/src/lib.rt"
-grep -E '^(field|circuit|classes|building|build):' "$repo/crates.txt" >"$work/crates.txt"
-echo 'inner: build building classes circuit field' >>"$work/crates.txt"
+grep -E '^(arithmetic|field|layout|circuit|classes|building|build):' "$repo/crates.txt" >"$work/crates.txt"
+echo 'inner: build building classes circuit layout field arithmetic' >>"$work/crates.txt"
 (cd "$work" && rt staticlib inner >log 2>&1) || { tail -20 "$work/log"; exit 1; }
 cp "$work/target/staticlib/libinner.a" "$here/target/inner/"
 

@@ -3,7 +3,7 @@
 #   bench/paths/measure.sh
 here=$(cd "$(dirname "$0")" && pwd)
 . "$here/../shared/prepare.sh"
-prepare pathsbench field circuit walking paths
+prepare pathsbench arithmetic field layout circuit walking paths
 
 echo "kind nodes check walk count distinct"
 for of in "squarings 501" "doublings 401" "squarings 32" "comb 500" "comb 1000" "comb 2000" "comb 4000" "distinct 4000"; do

@@ -3,7 +3,7 @@
 #   bench/read/measure.sh
 here=$(cd "$(dirname "$0")" && pwd)
 . "$here/../shared/prepare.sh"
-prepare readbench field circuit walking reading classes paths read
+prepare readbench arithmetic field layout circuit walking reading classes paths read
 
 calls="check zero degree base evaluate visible"
 echo "kind nodes $calls"

@@ -3,7 +3,7 @@
 use Prim.Native.Nat.{ℕ}
 use mathlib.Core.Path.{_≡_, sym, _∙_}
 use mathlib.Core.List.{List}
-use Rattle.circuit.specs.Outcomes.{Outcome}
+use Rattle.layout.specs.Outcomes.{Outcome}
 use Rattle.abi.specs.Answers.{Answered, Done}
 
 pub answered-once : {A L : Type 0} (words : A → List ℕ) (o : Outcome A L) (before : List ℕ) (r s : ℕ) (x y : List ℕ) (k l : L) → Answered words o r before x k → Answered words o s before y l

@@ -6,15 +6,15 @@ use Prim.Native.Nat.{ℕ, _<_, _≤_}
 use lib.ListN.{set}
 use lib.Seq.{sets}
 use borrow.Author.Tests.{lt-ltb, le-ltb, eq-eqb, ne-eqb}
-use Rattle.circuit.specs.declared.node.RowKind.the-variants.{Single, Dual}
-use Rattle.circuit.specs.declared.node.Node.{Node}
+use Rattle.layout.specs.declared.node.RowKind.the-variants.{Single, Dual}
+use Rattle.layout.specs.declared.node.Node.{Node}
 use Rattle.circuit.specs.declared.place.FourWords.{FourWords}
-use Rattle.circuit.specs.Words.{encode}
-use Rattle.circuit.specs.NotCircuit.{notCircuit}
-use Rattle.circuit.specs.Outcomes.{Outcome}
-use Rattle.circuit.specs.Answers.{refused}
-use Rattle.circuit.specs.Calls.{startCall}
-use Rattle.circuit.proofs.Refusals.{refusal-here, refusal-next, outcome-refused}
+use Rattle.layout.specs.Words.{encode}
+use Rattle.layout.specs.NotCircuit.{notCircuit}
+use Rattle.layout.specs.Outcomes.{Outcome}
+use Rattle.layout.specs.Answers.{refused}
+use Rattle.layout.specs.Calls.{startCall}
+use Rattle.layout.proofs.Refusals.{refusal-here, refusal-next, outcome-refused}
 use Rattle.building.specs.Calls.{inputCall}
 use Rattle.abi.specs.Answers.{Answered, Done, bit, asNode}
 use Rattle.abi.specs.Numbers.{startByNumber, positioned, inputByNumber}

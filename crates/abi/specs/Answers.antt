@@ -5,11 +5,11 @@ use mathlib.Core.Bool.{Bool}
 use mathlib.Core.List.{List, [], _∷_, _++_}
 use lib.IntN.{ℤ, pos, negsuc}
 use lib.Seq.{sets}
-use Rattle.field.specs.declared.extension.Triple.{Triple}
-use Rattle.circuit.specs.declared.node.Node.{Node}
-use Rattle.circuit.specs.Lists.{if_then_else_}
-use Rattle.circuit.specs.Words.{encode}
-use Rattle.circuit.specs.Outcomes.{Outcome}
+use Rattle.arithmetic.specs.declared.Triple.{Triple}
+use Rattle.layout.specs.declared.node.Node.{Node}
+use Rattle.layout.specs.Lists.{if_then_else_}
+use Rattle.layout.specs.Words.{encode}
+use Rattle.layout.specs.Outcomes.{Outcome}
 
 -- A call returns its refusal's number, 0 if it is accepted. Its values, as words, stand in the first places of `out`, the last slice that is lent, as
 -- far as there are places; places beyond keep their words. A refusal's values are zeros. What else was lent to be changed is as the outcome says.

@@ -3,13 +3,13 @@ use Prim.Native.Nat.{ℕ}
 use mathlib.Core.Bool.{true}
 use mathlib.Core.List.{List, [], _∷_}
 use lib.Dec.{eqb, ltb}
-use Rattle.circuit.specs.declared.node.RowKind.the-variants.{Single, Dual}
-use Rattle.circuit.specs.declared.node.Position.{Position}
-use Rattle.circuit.specs.declared.node.Position.the-variants.{Main, Aux, NextMain, NextAux}
-use Rattle.circuit.specs.Lists.{if_then_else_}
-use Rattle.circuit.specs.NotCircuit.{notCircuit}
-use Rattle.circuit.specs.Outcomes.{Outcome, outcome}
-use Rattle.circuit.specs.Calls.{startCall}
+use Rattle.layout.specs.declared.node.RowKind.the-variants.{Single, Dual}
+use Rattle.layout.specs.declared.node.Position.{Position}
+use Rattle.layout.specs.declared.node.Position.the-variants.{Main, Aux, NextMain, NextAux}
+use Rattle.layout.specs.Lists.{if_then_else_}
+use Rattle.layout.specs.NotCircuit.{notCircuit}
+use Rattle.layout.specs.Outcomes.{Outcome, outcome}
+use Rattle.layout.specs.Calls.{startCall}
 use Rattle.building.specs.Calls.{inputCall}
 
 -- 1 single, 2 dual; any other is document 01's unknown kind, NOT_CIRCUIT

@@ -1,11 +1,11 @@
 // How every call answers: it returns the number of its refusal, or 0, and its values stand in the first places of `out`, as far as there are places.
 use building::Answer;
-use circuit::calls::Counted;
-use circuit::calls::NodeRead;
-use circuit::node::Node;
 use circuit::place::FourWords;
 use circuit::place::words_of;
 use classes::Equal;
+use layout::answer::Counted;
+use layout::answer::NodeRead;
+use layout::node::Node;
 use lowering::Lowered;
 use reading::answer::Degree;
 use reading::answer::Test;
@@ -16,7 +16,7 @@ ghost use mathlib.Core.List.{List, [], _∷_};
 ghost use Prim.Native.Nat.{ℕ};
 ghost use lib.ListN.{set};
 ghost use lib.Seq.{sets};
-ghost use Rattle.circuit.specs.Answers.{toldNode, toldCount};
+ghost use Rattle.layout.specs.Answers.{toldNode, toldCount};
 ghost use Rattle.classes.specs.Told.{toldEqual};
 ghost use Rattle.building.specs.Told.{toldId};
 ghost use Rattle.walking.specs.Told as paths;

@@ -2,14 +2,14 @@
 use crate::answers::counted;
 use crate::answers::node;
 use circuit::calls;
-use circuit::calls::Started;
-use circuit::node::RowKind;
-use circuit::refusal::NOT_CIRCUIT;
+use layout::answer::Started;
+use layout::node::RowKind;
+use layout::refusal::NOT_CIRCUIT;
 ghost use mathlib.Core.Path.{_≡_};
 ghost use mathlib.Core.List.{[], _∷_};
-ghost use Rattle.circuit.specs.NotCircuit.{notCircuit};
-ghost use Rattle.circuit.specs.Outcomes.{refusal};
-ghost use Rattle.circuit.specs.Calls.{startCall, readCall, usedCall, freeCall};
+ghost use Rattle.layout.specs.NotCircuit.{notCircuit};
+ghost use Rattle.layout.specs.Outcomes.{refusal};
+ghost use Rattle.layout.specs.Calls.{startCall, readCall, usedCall, freeCall};
 ghost use Rattle.abi.specs.Answers.{Answered, Done, asNumber, asNode};
 ghost use Rattle.abi.specs.Numbers.{startByNumber};
 

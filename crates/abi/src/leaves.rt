@@ -1,14 +1,14 @@
 // Leaves: document 01, "Building". Each answers an id.
 use crate::answers::give;
 use crate::answers::id;
+use arithmetic::Triple;
 use build_calls::calls;
 use circuit::calls::is_circuit;
-use circuit::node::Position;
-use circuit::refusal::BAD_ROW;
-use circuit::refusal::NOT_CIRCUIT;
-use field::extension::Triple;
+use layout::node::Position;
+use layout::refusal::BAD_ROW;
+use layout::refusal::NOT_CIRCUIT;
 ghost use mathlib.Core.Path.{_≡_};
-ghost use Rattle.field.specs.Extension.{triple};
+ghost use Rattle.arithmetic.specs.Extension.{triple};
 ghost use Rattle.building.specs.Calls.{challengeCall, baseCall, zeroCall, oneCall, minusOneCall, extensionCall};
 ghost use Rattle.abi.specs.Answers.{Answered, asNumber};
 ghost use Rattle.abi.specs.Numbers.{positioned, inputByNumber};

@@ -1,8 +1,8 @@
 // Operations: document 01, "Building". Each answers an id.
 use crate::answers::id;
 use build_calls::calls;
-use circuit::node::Op;
-ghost use Rattle.circuit.specs.declared.node.Op.the-variants.{Add, Multiply};
+use layout::node::Op;
+ghost use Rattle.layout.specs.declared.node.Op.the-variants.{Add, Multiply};
 ghost use Rattle.building.specs.Calls.{operationCall, subtractCall, negateCall, sumCall};
 ghost use Rattle.abi.specs.Answers.{Answered, asNumber};
 

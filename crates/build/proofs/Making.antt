@@ -9,17 +9,17 @@ use lib.Dec.{ltb, leb, eqb}
 use lib.ListN.{length, getD, take, drop, length-append, List·getD-append}
 use lib.Seq.{sets, sets-eq, length-take-le, getD-set-same, getD-set-other, getD-take, getD-drop, getD-append-add}
 use borrow.Author.Tests.{le-ltb, lt-leb, leb-false}
-use Rattle.circuit.specs.declared.node.Op.{Op}
-use Rattle.circuit.specs.declared.node.Op.the-variants.{Add, Multiply}
-use Rattle.circuit.specs.declared.node.Position.the-variants.{Main, Aux, NextMain, NextAux}
-use Rattle.circuit.specs.declared.node.Expression.{Expression}
-use Rattle.circuit.specs.declared.node.Expression.the-variants.{Base, Extension, Challenge, Operation, Input}
-use Rattle.circuit.specs.declared.node.Node.{Node}
-use Rattle.circuit.specs.Words.{rowKind, used, limit, offset, word, nodeAt, expressionAt, encode, made}
-use Rattle.circuit.specs.NotCircuit.{badRow, badExpression, badNode, badHeader, eitherOperand, goesOn, cyclic, notCircuit}
-use Rattle.circuit.proofs.Tests.{neither, or-false, last-or, any-none}
+use Rattle.layout.specs.declared.node.Op.{Op}
+use Rattle.layout.specs.declared.node.Op.the-variants.{Add, Multiply}
+use Rattle.layout.specs.declared.node.Position.the-variants.{Main, Aux, NextMain, NextAux}
+use Rattle.layout.specs.declared.node.Expression.{Expression}
+use Rattle.layout.specs.declared.node.Expression.the-variants.{Base, Extension, Challenge, Operation, Input}
+use Rattle.layout.specs.declared.node.Node.{Node}
+use Rattle.layout.specs.Words.{rowKind, used, limit, offset, word, nodeAt, expressionAt, encode, made}
+use Rattle.layout.specs.NotCircuit.{badRow, badExpression, badNode, badHeader, eitherOperand, goesOn, cyclic, notCircuit}
+use Rattle.layout.proofs.Tests.{neither, or-false, last-or, any-none}
 use Rattle.circuit.proofs.Places.{encode-length, fresh, made-stores, made-length, made-limit, made-row, made-here, made-other}
-use Rattle.circuit.proofs.Valid.{place-fits, valid-header, valid-node, valid-ends, valid-operands}
+use Rattle.layout.proofs.Valid.{place-fits, valid-header, valid-node, valid-ends, valid-operands}
 
 -- one node more, in the lent words or beyond them
 pub made-one : (m : List ℕ) (e : Expression) → used (made m e) ≡ used m + 1

@@ -9,13 +9,13 @@ use lib.Dec.{leb}
 use lib.ListN.{length, getD, drop}
 use lib.Seq.{drop-cons}
 use borrow.Author.Tests.{ltb-true, ltb-false, lt-ltb, le-ltb, lt-leb, leb-false}
-use Rattle.field.specs.Base.{p, minusOne}
-use Rattle.circuit.specs.declared.node.Op.the-variants.{Add, Multiply}
-use Rattle.circuit.specs.declared.node.Expression.the-variants.{Base}
-use Rattle.circuit.specs.Lists.{any}
-use Rattle.circuit.specs.Words.{used, limit}
-use Rattle.circuit.specs.NotCircuit.{badExpression, badId}
-use Rattle.circuit.proofs.Tests.{neither}
+use Rattle.arithmetic.specs.Base.{p, minusOne}
+use Rattle.layout.specs.declared.node.Op.the-variants.{Add, Multiply}
+use Rattle.layout.specs.declared.node.Expression.the-variants.{Base}
+use Rattle.layout.specs.Lists.{any}
+use Rattle.layout.specs.Words.{used, limit}
+use Rattle.layout.specs.NotCircuit.{badExpression, badId}
+use Rattle.layout.proofs.Tests.{neither}
 use Rattle.build.specs.declared.steps.Made.{Made}
 use Rattle.build.specs.declared.steps.Made.the-variants.{At, Full}
 use Rattle.building.specs.Building.{Built, built, findOrMake, operate, negated, subtracted, summedFrom, summed, full}

@@ -8,9 +8,9 @@ use mathlib.Core.List.{List}
 use native.Mathlib.Omega.{arith}
 use lib.ListN.{length, getD, set, length-set}
 use lib.Seq.{ext-getD, getD-set-same, getD-set-other}
-use Rattle.circuit.specs.Words.{used, limit, offset}
+use Rattle.layout.specs.Words.{used, limit, offset}
 use Rattle.circuit.specs.Rank.{Sorted}
-use Rattle.circuit.proofs.Tests.{below-or, same-or}
+use Rattle.layout.proofs.Tests.{below-or, same-or}
 use Rattle.classes.specs.Find.{Fillable}
 use Rattle.build.specs.Inner.{Kept}
 use Rattle.build.specs.Saved.{Saved, Restorable, Restored, Classable}

@@ -7,21 +7,21 @@ use mathlib.Core.List.{List}
 use native.Mathlib.Omega.{arith}
 use lib.Dec.{leb}
 use borrow.Author.Tests.{lt-ltb, le-ltb, lt-leb}
-use Rattle.field.specs.declared.extension.Triple.{Triple}
-use Rattle.field.specs.Base.{p}
-use Rattle.field.specs.Extension.{Canonical, unlifts}
-use Rattle.field.proofs.Algebra.{canonical-plus, canonical-times}
-use Rattle.circuit.specs.declared.node.Op.{Op}
-use Rattle.circuit.specs.declared.node.Op.the-variants.{Add, Multiply}
-use Rattle.circuit.specs.declared.node.Expression.{Expression}
-use Rattle.circuit.specs.declared.node.Expression.the-variants.{Base, Extension, Challenge, Operation, Input}
-use Rattle.circuit.specs.Lists.{if_then_else_}
-use Rattle.circuit.specs.Words.{used, limit, expressionAt, registered, made, constantOf, constant, isConstant, apply}
-use Rattle.circuit.specs.NotCircuit.{badWords, badExpression, notCircuit, eitherOperand}
-use Rattle.circuit.specs.Tree.{tree, treeOf, same}
-use Rattle.circuit.proofs.Tests.{or-false}
-use Rattle.circuit.proofs.Lists.{Found, first-found}
-use Rattle.circuit.proofs.Valid.{valid-room}
+use Rattle.arithmetic.specs.declared.Triple.{Triple}
+use Rattle.arithmetic.specs.Base.{p}
+use Rattle.arithmetic.specs.Extension.{Canonical, unlifts}
+use Rattle.arithmetic.proofs.Algebra.{canonical-plus, canonical-times}
+use Rattle.layout.specs.declared.node.Op.{Op}
+use Rattle.layout.specs.declared.node.Op.the-variants.{Add, Multiply}
+use Rattle.layout.specs.declared.node.Expression.{Expression}
+use Rattle.layout.specs.declared.node.Expression.the-variants.{Base, Extension, Challenge, Operation, Input}
+use Rattle.layout.specs.Lists.{if_then_else_}
+use Rattle.layout.specs.Words.{used, limit, expressionAt, registered, made, constantOf, constant, isConstant, apply}
+use Rattle.layout.specs.NotCircuit.{badWords, badExpression, notCircuit, eitherOperand}
+use Rattle.layout.specs.Tree.{tree, treeOf, same}
+use Rattle.layout.proofs.Tests.{or-false}
+use Rattle.layout.proofs.Lists.{Found, first-found}
+use Rattle.layout.proofs.Valid.{valid-room}
 use Rattle.classes.specs.declared.find.Place.{Place}
 use Rattle.classes.specs.declared.find.Place.the-variants as place
 use Rattle.classes.specs.Find.{placed, leastEqual, Classed, Findable, Joinable}

@@ -5,10 +5,10 @@ use mathlib.Core.Bool.{false}
 use mathlib.Core.List.{List, [], _∷_}
 use native.Mathlib.Omega.{arith}
 use lib.ListN.{length}
-use Rattle.circuit.specs.Words.{used, limit}
-use Rattle.circuit.specs.NotCircuit.{notCircuit}
-use Rattle.circuit.proofs.Valid.{valid-length, limit-top}
-use Rattle.circuit.proofs.Lists.{clash}
+use Rattle.layout.specs.Words.{used, limit}
+use Rattle.layout.specs.NotCircuit.{notCircuit}
+use Rattle.layout.proofs.Valid.{valid-length, limit-top}
+use Rattle.layout.proofs.Lists.{clash}
 use Rattle.build.specs.declared.steps.Made.{Made}
 use Rattle.build.specs.declared.steps.Made.the-variants.{At, Full}
 use Rattle.building.specs.Building.{Built, summed, full}

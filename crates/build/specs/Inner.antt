@@ -6,13 +6,13 @@ use mathlib.Core.Bool.{true, false}
 use mathlib.Core.Option.{Option, none, some}
 use mathlib.Core.List.{List}
 use lib.ListN.{length, getD}
-use Rattle.field.specs.declared.extension.Triple.{Triple}
-use Rattle.circuit.specs.declared.node.Op.{Op}
-use Rattle.circuit.specs.declared.node.Op.the-variants.{Add, Multiply}
-use Rattle.circuit.specs.declared.node.Expression.{Expression}
-use Rattle.circuit.specs.Lists.{if_then_else_}
-use Rattle.circuit.specs.Words.{used, limit, offset, isConstant}
-use Rattle.circuit.specs.NotCircuit.{notCircuit, badExpression, badId}
+use Rattle.arithmetic.specs.declared.Triple.{Triple}
+use Rattle.layout.specs.declared.node.Op.{Op}
+use Rattle.layout.specs.declared.node.Op.the-variants.{Add, Multiply}
+use Rattle.layout.specs.declared.node.Expression.{Expression}
+use Rattle.layout.specs.Lists.{if_then_else_}
+use Rattle.layout.specs.Words.{used, limit, offset, isConstant}
+use Rattle.layout.specs.NotCircuit.{notCircuit, badExpression, badId}
 use Rattle.classes.specs.Find.{Classed}
 use Rattle.build.specs.declared.constants.Valued.{Valued}
 use Rattle.build.specs.declared.constants.Valued.the-variants as constants

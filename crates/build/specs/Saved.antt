@@ -5,8 +5,8 @@ use mathlib.Core.Logic.{_⊎_, _≢_}
 use mathlib.Core.Bool.{false}
 use mathlib.Core.List.{List}
 use lib.ListN.{length, getD}
-use Rattle.circuit.specs.Words.{used, offset}
-use Rattle.circuit.specs.NotCircuit.{notCircuit}
+use Rattle.layout.specs.Words.{used, offset}
+use Rattle.layout.specs.NotCircuit.{notCircuit}
 use Rattle.classes.specs.Numbers.{Sized}
 
 -- the words of the free places, as far as there are words and room for them

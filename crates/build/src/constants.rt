@@ -1,14 +1,14 @@
-// Constants by value: what a node's is, the tests for 0, 1 and -1, and the fold of two.
-use circuit::node::Expression;
-use circuit::node::Op;
-use circuit::place::expression_at;
+// Constants by value: what a node's is, the operand that an operation gives where it needs no node, and the fold of two.
+use arithmetic::Triple;
+use circuit::constants::is_constant;
 use classes::find::Place;
 use field::extension;
-use field::extension::Triple;
+use layout::node::Expression;
+use layout::node::Op;
 ghost use mathlib.Core.Path.{_≡_};
 ghost use Prim.Native.Nat.{_+_, _≤_};
 ghost use lib.ListN.{length};
-ghost use Rattle.circuit.specs.Words.{offset, constantOf, constant, constantIs, isConstant, apply};
+ghost use Rattle.layout.specs.Words.{offset, constantOf, constant, apply};
 ghost use Rattle.classes.specs.Find.{placed};
 ghost use Rattle.build.specs.Inner.{valued, simplified};
 
@@ -18,7 +18,7 @@ pub enum Valued {
     Nothing,
 }
 
-pub fn constant_of(e: Expression) -> Valued
+pub(crate) fn constant_of(e: Expression) -> Valued
     ensures { λ r. ⌜ valued r ≡ constantOf e ⌝ }
 {
     match e {
@@ -28,26 +28,6 @@ pub fn constant_of(e: Expression) -> Valued
         Expression::Operation(_, _, _) => Valued::Nothing,
         Expression::Input(_) => Valued::Nothing,
     }
-}
-
-// Whether an expression is the constant w, in the base field or lifted.
-pub fn constant_is(w: u64, e: Expression) -> bool
-    ensures { λ r. ⌜ r ≡ constantIs w e ⌝ }
-{
-    match e {
-        Expression::Base(v) => v == w,
-        Expression::Extension(x) => extension::equal(x, extension::lift(w)),
-        Expression::Challenge(_) => false,
-        Expression::Operation(_, _, _) => false,
-        Expression::Input(_) => false,
-    }
-}
-
-pub fn is_constant(w: u64, m: &[u64], i: u64) -> bool
-    requires { ⌜ offset i + 6 ≤ length (now m) ⌝ }
-    ensures { λ r. ⌜ r ≡ isConstant w (now (m .entry)) i ⌝ }
-{
-    constant_is(w, expression_at(m, i))
 }
 
 // An extension constant that unlifts becomes a base constant.
@@ -61,7 +41,7 @@ pub fn constant(x: Triple) -> Expression
     }
 }
 
-pub fn apply(o: Op, x: Triple, y: Triple) -> Triple
+pub(crate) fn apply(o: Op, x: Triple, y: Triple) -> Triple
     ensures { λ r. ⌜ r ≡ apply o x y ⌝ }
 {
     match o {
@@ -105,7 +85,7 @@ fn simplified_product(m: &[u64], l: u64, r: u64) -> Place
 }
 
 // The operand that an operation gives where it needs no node.
-pub fn simplified(m: &[u64], o: Op, l: u64, r: u64) -> Place
+pub(crate) fn simplified(m: &[u64], o: Op, l: u64, r: u64) -> Place
     requires { ⌜ (offset l + 6 ≤ length (now m)) × (offset r + 6 ≤ length (now m)) ⌝ }
     ensures { λ q. ⌜ placed q ≡ simplified (now (m .entry)) o l r ⌝ }
 {

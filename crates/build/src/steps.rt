@@ -6,14 +6,14 @@ use crate::constants::constant;
 use crate::constants::constant_of;
 use crate::constants::simplified;
 use circuit::check::limit_of;
-use circuit::node::Expression;
-use circuit::node::Op;
 use circuit::place::expression_at;
 use circuit::place::make;
 use classes::find::Place;
 use classes::find::find;
 use classes::find::join;
-ghost use Rattle.circuit.specs.Words.{used, made};
+use layout::node::Expression;
+use layout::node::Op;
+ghost use Rattle.layout.specs.Words.{used, made};
 ghost use Rattle.building.specs.Building.{built, findOrMake, eitherOrder, folding, operate};
 ghost use Rattle.build.specs.Inner.{Makable, Operable, Stepped};
 

@@ -6,14 +6,14 @@ use mathlib.Core.List.{List, [], _∷_, _++_}
 use native.Mathlib.Omega.{arith}
 use lib.Dec.{leb}
 use lib.ListN.{length}
-use Rattle.circuit.specs.Lists.{any}
-use Rattle.circuit.specs.Words.{used}
-use Rattle.circuit.specs.NotCircuit.{notCircuit, badId}
+use Rattle.layout.specs.Lists.{any}
+use Rattle.layout.specs.Words.{used}
+use Rattle.layout.specs.NotCircuit.{notCircuit, badId}
 use Rattle.circuit.specs.Rank.{Checked}
-use Rattle.circuit.specs.Outcomes.{refusal, numbered, outcome}
-use Rattle.circuit.specs.Answers.{refused}
-use Rattle.circuit.proofs.Valid.{valid-header, header-top}
-use Rattle.circuit.proofs.Refusals.{refusal-none, refusal-here, refusal-next, outcome-refused, outcome-accepted, accepts}
+use Rattle.layout.specs.Outcomes.{refusal, numbered, outcome}
+use Rattle.layout.specs.Answers.{refused}
+use Rattle.layout.proofs.Valid.{valid-header, header-top}
+use Rattle.layout.proofs.Refusals.{refusal-none, refusal-here, refusal-next, outcome-refused, outcome-accepted, accepts}
 use Rattle.classes.specs.Find.{Fillable}
 use Rattle.classes.specs.Numbers.{Sized}
 use Rattle.building.specs.declared.Answer.{Answer}

@@ -7,23 +7,23 @@ use mathlib.Core.Option.{Option, none, some}
 use mathlib.Core.List.{List, [], _∷_}
 use native.Mathlib.Omega.{arith}
 use borrow.Author.Tests.{le-ltb, lt-ltb}
-use Rattle.field.specs.declared.extension.Triple.{Triple}
-use Rattle.field.specs.Extension.{unlifts}
-use Rattle.circuit.specs.declared.node.Position.the-variants.{Main, Aux, NextMain, NextAux}
-use Rattle.circuit.specs.declared.node.Op.the-variants.{Add, Multiply}
-use Rattle.circuit.specs.declared.node.Node.{Node}
-use Rattle.circuit.specs.declared.node.Expression.{Expression}
-use Rattle.circuit.specs.declared.node.Expression.the-variants.{Base, Extension, Challenge, Operation, Input}
-use Rattle.circuit.specs.Lists.{if_then_else_, sameWords, upTo, first}
-use Rattle.circuit.specs.Words.{used, limit, nodeAt, expressionAt, registered, encode, constant, made}
-use Rattle.circuit.specs.NotCircuit.{notCircuit}
-use Rattle.circuit.specs.Tree.{Tree, treeOver, tree, treeOf, same}
-use Rattle.circuit.proofs.Lists.{Found, Least, first-is, first-same, clash}
-use Rattle.circuit.proofs.Tests.{last-or}
-use Rattle.circuit.proofs.Refusals.{refusal-none, refusal-here, refusal-next, outcome-refused, outcome-accepted}
-use Rattle.circuit.proofs.Trees.{tree-fixed}
-use Rattle.circuit.proofs.Valid.{valid-room}
-use Rattle.circuit.specs.Answers.{accepted, refused}
+use Rattle.arithmetic.specs.declared.Triple.{Triple}
+use Rattle.arithmetic.specs.Extension.{unlifts}
+use Rattle.layout.specs.declared.node.Position.the-variants.{Main, Aux, NextMain, NextAux}
+use Rattle.layout.specs.declared.node.Op.the-variants.{Add, Multiply}
+use Rattle.layout.specs.declared.node.Node.{Node}
+use Rattle.layout.specs.declared.node.Expression.{Expression}
+use Rattle.layout.specs.declared.node.Expression.the-variants.{Base, Extension, Challenge, Operation, Input}
+use Rattle.layout.specs.Lists.{if_then_else_, sameWords, upTo, first}
+use Rattle.layout.specs.Words.{used, limit, nodeAt, expressionAt, registered, encode, constant, made}
+use Rattle.layout.specs.NotCircuit.{notCircuit}
+use Rattle.layout.specs.Tree.{Tree, treeOver, tree, treeOf, same}
+use Rattle.layout.proofs.Lists.{Found, Least, first-is, first-same, clash}
+use Rattle.layout.proofs.Tests.{last-or}
+use Rattle.layout.proofs.Refusals.{refusal-none, refusal-here, refusal-next, outcome-refused, outcome-accepted}
+use Rattle.layout.proofs.Trees.{tree-fixed}
+use Rattle.layout.proofs.Valid.{valid-room}
+use Rattle.layout.specs.Answers.{accepted, refused}
 use Rattle.classes.specs.declared.find.Place.{Place}
 use Rattle.classes.specs.declared.find.Place.the-variants.{At, Nowhere}
 use Rattle.classes.specs.Find.{placed}

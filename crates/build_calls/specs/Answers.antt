@@ -4,10 +4,10 @@ use mathlib.Core.Path.{_≡_}
 use mathlib.Core.Bool.{false}
 use mathlib.Core.List.{List, [], _∷_}
 use lib.ListN.{length}
-use Rattle.circuit.specs.Words.{used}
-use Rattle.circuit.specs.NotCircuit.{notCircuit, badId}
+use Rattle.layout.specs.Words.{used}
+use Rattle.layout.specs.NotCircuit.{notCircuit, badId}
 use Rattle.circuit.specs.Rank.{Sorted}
-use Rattle.circuit.specs.Outcomes.{Outcome, outcome}
+use Rattle.layout.specs.Outcomes.{Outcome, outcome}
 use Rattle.building.specs.declared.Answer.{Answer}
 use Rattle.building.specs.declared.Answer.the-variants.{Id, Refused}
 use Rattle.build.specs.declared.steps.Made.{Made}

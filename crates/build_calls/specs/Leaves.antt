@@ -3,11 +3,11 @@ use Prim.Native.Nat.{ℕ}
 use mathlib.Core.Path.{_≡_}
 use mathlib.Core.Bool.{Bool, true, false, _&&_}
 use mathlib.Core.List.{List}
-use Rattle.circuit.specs.declared.node.Expression.{Expression}
-use Rattle.circuit.specs.declared.node.Expression.the-variants.{Base, Extension, Challenge, Operation, Input}
-use Rattle.circuit.specs.Lists.{sameWords}
-use Rattle.circuit.specs.Words.{expressionAt, registered, encode}
-use Rattle.circuit.specs.NotCircuit.{notCircuit, badExpression}
+use Rattle.layout.specs.declared.node.Expression.{Expression}
+use Rattle.layout.specs.declared.node.Expression.the-variants.{Base, Extension, Challenge, Operation, Input}
+use Rattle.layout.specs.Lists.{sameWords}
+use Rattle.layout.specs.Words.{expressionAt, registered, encode}
+use Rattle.layout.specs.NotCircuit.{notCircuit, badExpression}
 
 -- no operation
 abbrev pub isLeaf : Expression → Bool

@@ -1,19 +1,19 @@
 // A leaf is equal by structure to the nodes that have its words, so it is found, and made, without class tables.
 use building::Answer;
 use circuit::check::limit_of;
-use circuit::node::Expression;
 use circuit::place::FourWords;
 use circuit::place::expression_at;
 use circuit::place::make;
 use circuit::place::node_at;
 use circuit::place::words_of;
-use circuit::refusal::FULL;
 use classes::find::Place;
+use layout::node::Expression;
+use layout::refusal::FULL;
 ghost use mathlib.Core.Path.{_≡_};
 ghost use Prim.Native.Nat.{_+_, _≤_};
 ghost use lib.ListN.{length};
-ghost use Rattle.circuit.specs.Lists.{sameWords};
-ghost use Rattle.circuit.specs.Words.{offset};
+ghost use Rattle.layout.specs.Lists.{sameWords};
+ghost use Rattle.layout.specs.Words.{offset};
 ghost use Rattle.classes.specs.Table.{listed};
 ghost use Rattle.classes.specs.Find.{placed};
 ghost use Rattle.building.specs.Building.{find, findOrMake};

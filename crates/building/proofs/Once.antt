@@ -4,8 +4,8 @@ use Prim.Native.Nat.{ℕ}
 use mathlib.Core.Path.{_≡_, sym, ap}
 use mathlib.Core.Logic.{_≢_}
 use mathlib.Core.List.{List}
-use Rattle.circuit.specs.Outcomes.{Outcome}
-use Rattle.circuit.proofs.Unique.{one-outcome, same-number, same-values, same-lent}
+use Rattle.layout.specs.Outcomes.{Outcome}
+use Rattle.layout.proofs.Unique.{one-outcome, same-number, same-values, same-lent}
 use Rattle.building.specs.declared.Answer.{Answer}
 use Rattle.building.specs.declared.Answer.the-variants.{Id, Refused}
 use Rattle.building.specs.Told.{toldId}

@@ -4,15 +4,15 @@ use mathlib.Core.Bool.{Bool, _&&_}
 use mathlib.Core.Option.{Option, none, some}
 use mathlib.Core.List.{List, [], _∷_}
 use lib.Dec.{ltb, leb}
-use Rattle.field.specs.declared.extension.Triple.{Triple}
-use Rattle.field.specs.Base.{minusOne}
-use Rattle.circuit.specs.declared.node.Op.{Op}
-use Rattle.circuit.specs.declared.node.Op.the-variants.{Add, Multiply}
-use Rattle.circuit.specs.declared.node.Expression.{Expression}
-use Rattle.circuit.specs.declared.node.Expression.the-variants.{Base, Operation}
-use Rattle.circuit.specs.Lists.{if_then_else_, first, upTo}
-use Rattle.circuit.specs.Words.{used, limit, expressionAt, registered, made, constantOf, constant, isConstant, apply}
-use Rattle.circuit.specs.Tree.{tree, treeOf, same}
+use Rattle.arithmetic.specs.declared.Triple.{Triple}
+use Rattle.arithmetic.specs.Base.{minusOne}
+use Rattle.layout.specs.declared.node.Op.{Op}
+use Rattle.layout.specs.declared.node.Op.the-variants.{Add, Multiply}
+use Rattle.layout.specs.declared.node.Expression.{Expression}
+use Rattle.layout.specs.declared.node.Expression.the-variants.{Base, Operation}
+use Rattle.layout.specs.Lists.{if_then_else_, first, upTo}
+use Rattle.layout.specs.Words.{used, limit, expressionAt, registered, made, constantOf, constant, isConstant, apply}
+use Rattle.layout.specs.Tree.{tree, treeOf, same}
 
 -- a circuit and an id in it
 pub record Built : Type 0 where

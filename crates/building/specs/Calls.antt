@@ -4,14 +4,14 @@ use mathlib.Core.Bool.{Bool}
 use mathlib.Core.List.{List, [], _∷_, _++_}
 use lib.ListN.{length}
 use lib.Dec.{eqb}
-use Rattle.field.specs.declared.extension.Triple.{Triple}
-use Rattle.field.specs.Base.{minusOne}
-use Rattle.circuit.specs.declared.node.Position.{Position}
-use Rattle.circuit.specs.declared.node.Op.{Op}
-use Rattle.circuit.specs.declared.node.Expression.the-variants.{Base, Challenge, Input}
-use Rattle.circuit.specs.Words.{column, constant}
-use Rattle.circuit.specs.NotCircuit.{badRow, badIndex, badWord, badWords, notCircuit, badId}
-use Rattle.circuit.specs.Outcomes.{Outcome, outcome}
+use Rattle.arithmetic.specs.declared.Triple.{Triple}
+use Rattle.arithmetic.specs.Base.{minusOne}
+use Rattle.layout.specs.declared.node.Position.{Position}
+use Rattle.layout.specs.declared.node.Op.{Op}
+use Rattle.layout.specs.declared.node.Expression.the-variants.{Base, Challenge, Input}
+use Rattle.layout.specs.Words.{column, constant}
+use Rattle.layout.specs.NotCircuit.{badRow, badIndex, badWord, badWords, notCircuit, badId}
+use Rattle.layout.specs.Outcomes.{Outcome, outcome}
 use Rattle.building.specs.Building.{Built, findOrMake, operate, negated, subtracted, summed, full}
 
 -- the lowest number that applies: 1, the call's own tests in rising order, 6

@@ -3,16 +3,16 @@ use Prim.Native.Nat.{ℕ, _-_}
 use mathlib.Core.List.{List, [], _∷_, _++_, map}
 use lib.ListN.{take, drop}
 use lib.Dec.{T}
-use Rattle.field.specs.Base.{p}
-use Rattle.field.specs.Extension.{triple}
-use Rattle.circuit.specs.declared.node.Position.the-variants.{Main, Aux, NextMain}
-use Rattle.circuit.specs.declared.node.Op.the-variants.{Add, Multiply}
-use Rattle.circuit.specs.declared.node.Expression.{Expression}
-use Rattle.circuit.specs.declared.node.Expression.the-variants.{Base, Extension, Challenge, Operation, Input}
-use Rattle.circuit.specs.Lists.{agree}
-use Rattle.circuit.specs.Words.{used, offset}
-use Rattle.circuit.specs.Outcomes.{Outcome}
-use Rattle.circuit.specs.Samples.{sample, loosen}
+use Rattle.arithmetic.specs.Base.{p}
+use Rattle.arithmetic.specs.Extension.{triple}
+use Rattle.layout.specs.declared.node.Position.the-variants.{Main, Aux, NextMain}
+use Rattle.layout.specs.declared.node.Op.the-variants.{Add, Multiply}
+use Rattle.layout.specs.declared.node.Expression.{Expression}
+use Rattle.layout.specs.declared.node.Expression.the-variants.{Base, Extension, Challenge, Operation, Input}
+use Rattle.layout.specs.Lists.{agree}
+use Rattle.layout.specs.Words.{used, offset}
+use Rattle.layout.specs.Outcomes.{Outcome}
+use Rattle.layout.specs.Samples.{sample, loosen}
 use Rattle.building.specs.Calls.{inputCall, challengeCall, baseCall, zeroCall, oneCall, minusOneCall, extensionCall, operationCall, subtractCall, negateCall, sumCall}
 use Rattle.building.specs.Computing.{buildComputes}
 
@@ -50,6 +50,11 @@ table =
     -- two constants fold to a constant leaf; their own leaves stay
     ∷ (shown (operationCall (five 1) Add 3 3), 0 ∷ 5 ∷ 6 ∷ [])
     ∷ (take 6 (drop (offset 5) (operationCall (five 1) Add 3 3 .lent)), 0 ∷ 2 ∷ 0 ∷ 0 ∷ 1 ∷ 0 ∷ [])
+    ∷ (take 4 (drop (offset 2) (operationCall (sample 1 1 (Base 5 ∷ Base 7 ∷ [])) Add 0 1 .lent)), 0 ∷ 12 ∷ 0 ∷ 0 ∷ [])
+    ∷ (take 4 (drop (offset 2) (operationCall (sample 1 1 (Base 5 ∷ Extension (triple 0 1 2) ∷ [])) Multiply 1 0 .lent)), 1 ∷ 0 ∷ 5 ∷ 10 ∷ [])
+    -- one constant alone does not
+    ∷ (take 4 (drop (offset 2) (operationCall (sample 1 1 (Input (Main 0) ∷ Base 7 ∷ [])) Multiply 0 1 .lent)), 4 ∷ 0 ∷ 1 ∷ 0 ∷ [])
+    ∷ (take 4 (drop (offset 2) (operationCall (sample 1 1 (Input (Main 0) ∷ Base 7 ∷ [])) Multiply 1 0 .lent)), 4 ∷ 1 ∷ 0 ∷ 0 ∷ [])
     -- (op, right, left) is looked for before (op, left, right), by structure, among the registered, the least id
     ∷ (shown (operationCall (five 0) Add 1 0), 0 ∷ 4 ∷ 5 ∷ [])
     ∷ (shown (operationCall (sample 1 0 (Input (Main 0) ∷ Input (Main 1) ∷ Operation Add 0 1 ∷ Operation Add 1 0 ∷ [])) Add 0 1), 0 ∷ 3 ∷ 4 ∷ [])
@@ -66,8 +71,11 @@ table =
     ∷ (shown (sumCall (five 0) (0 ∷ [])) ++ shown (sumCall (five 0) (0 ∷ 1 ∷ [])) ++ shown (sumCall (five 1) (0 ∷ 1 ∷ 0 ∷ [])), 0 ∷ 0 ∷ 5 ∷ 0 ∷ 4 ∷ 5 ∷ 0 ∷ 5 ∷ 6 ∷ [])
     ∷ (shown (sumCall (damaged 1) (0 ∷ 1 ∷ 0 ∷ [])) ++ shown (sumCall (damaged 0) (0 ∷ 1 ∷ 0 ∷ [])), 0 ∷ 3 ∷ 5 ∷ 6 ∷ 0 ∷ 4 ∷ [])
     ∷ (shown (sumCall (five 1) (3 ∷ 3 ∷ 2 ∷ [])), 0 ∷ 5 ∷ 6 ∷ [])
+    ∷ (take 4 (drop (offset 5) (sumCall (five 1) (3 ∷ 3 ∷ 2 ∷ []) .lent)), 0 ∷ 2 ∷ 0 ∷ 0 ∷ [])
+    ∷ (take 4 (drop (offset 5) (sumCall (five 1) (0 ∷ 1 ∷ 0 ∷ []) .lent)), 3 ∷ 4 ∷ 0 ∷ 0 ∷ [])
     -- refusals, the lowest number that applies: EMPTY, BAD_ID, BAD_ROW, BAD_INDEX, BAD_WORD, NOT_CIRCUIT
     ∷ (sumCall (five 0) [] .number ∷ sumCall (five 0) (5 ∷ []) .number ∷ operationCall (five 0) Add 0 5 .number ∷ negateCall (five 0) 5 .number ∷ [], 7 ∷ 2 ∷ 2 ∷ 2 ∷ [])
+    ∷ (operationCall (five 0) Add 5 0 .number ∷ subtractCall (five 0) 5 0 .number ∷ subtractCall (five 0) 0 5 .number ∷ [], 2 ∷ 2 ∷ 2 ∷ [])
     ∷ (inputCall (five 0) (NextMain 65536) .number ∷ inputCall (five 0) (Main 65536) .number ∷ inputCall (five 1) (Main 65535) .number ∷ inputCall (five 0) (Main 65535) .number ∷ [], 3 ∷ 4 ∷ 0 ∷ 6 ∷ [])
     ∷ (challengeCall (five 0) 65536 .number ∷ challengeCall (five 1) 65535 .number ∷ baseCall (five 0) p .number ∷ baseCall (five 1) (p - 1) .number ∷ extensionCall (five 0) (triple 0 p 0) .number ∷ baseCall [] p .number ∷ [], 4 ∷ 0 ∷ 5 ∷ 0 ∷ 5 ∷ 1 ∷ [])
     ∷ []

@@ -4,12 +4,12 @@ use mathlib.Core.Bool.{Bool, true, false, not, false≢true}
 use mathlib.Core.List.{List}
 use Prim.Native.Nat.{ℕ, _≤_}
 use lib.ListN.{length}
-use Rattle.circuit.specs.Lists.{any, upTo}
-use Rattle.circuit.specs.Words.{used}
-use Rattle.circuit.specs.NotCircuit.{badHeader, badNode, notCircuit}
+use Rattle.layout.specs.Lists.{any, upTo}
+use Rattle.layout.specs.Words.{used}
+use Rattle.layout.specs.NotCircuit.{badHeader, badNode, notCircuit}
 use Rattle.circuit.specs.Rank.{Sorted, Checked}
 use Rattle.circuit.specs.Walk.{Walkable, Ordered}
-use Rattle.circuit.proofs.Valid.{valid-header, valid-nodes}
+use Rattle.layout.proofs.Valid.{valid-header, valid-nodes}
 
 module _ (m order rank : List ℕ) where
   refused : notCircuit m ≡ true → Checked m order rank false

@@ -9,10 +9,10 @@ use lib.Dec.{ltb}
 use lib.ListN.{length, set}
 use lib.Seq.{getD-set-same, getD-set-other}
 use borrow.Author.Tests.{lt-ltb, le-ltb}
-use Rattle.circuit.specs.Lists.{if_then_else_}
+use Rattle.layout.specs.Lists.{if_then_else_}
 use Rattle.circuit.specs.Rank.{at}
 use Rattle.circuit.specs.Walk.{finished}
-use Rattle.circuit.proofs.Tests.{last-or, below-or}
+use Rattle.layout.proofs.Tests.{last-or, below-or}
 
 module _ (rank : List ℕ) (n : ℕ) where
   finished-le : (k : ℕ) → finished rank n k ≤ k

@@ -7,10 +7,10 @@ use Prim.Native.Nat.{ℕ, _+_, _<_, _≤_}
 use native.Mathlib.Omega.{arith}
 use lib.ListN.{length, set}
 use lib.Seq.{getD-set-same, getD-set-other}
-use Rattle.circuit.specs.Words.{used}
+use Rattle.layout.specs.Words.{used}
 use Rattle.circuit.specs.Rank.{at, Sorted}
 use Rattle.circuit.specs.Walk.{Ranked, Walked, Placing, Placed, Ordered}
-use Rattle.circuit.proofs.Tests.{last-or}
+use Rattle.layout.proofs.Tests.{last-or}
 
 -- one more stands at its rank
 pub place-next : (order rank : List ℕ) (n i : ℕ) → Placing rank n → i < n → n ≤ length order → ((j : ℕ) → j < i → at order (at rank j) ≡ j) → (j : ℕ) → j < i + 1 → at (set order (at rank i) i) (at rank j) ≡ j

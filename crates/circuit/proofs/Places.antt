@@ -10,18 +10,18 @@ use native.Mathlib.Omega.{arith}
 use lib.Dec.{eqb}
 use lib.ListN.{length, getD, set, take, length-set, length-append}
 use lib.Seq.{sets, sets-eq, length-sets, getD-set-same, getD-set-other}
-use Rattle.circuit.specs.declared.node.Position.{Position}
-use Rattle.circuit.specs.declared.node.Position.the-variants.{Main, Aux, NextMain, NextAux}
-use Rattle.circuit.specs.declared.node.Op.{Op}
-use Rattle.circuit.specs.declared.node.Op.the-variants.{Add, Multiply}
-use Rattle.circuit.specs.declared.node.Expression.{Expression}
-use Rattle.circuit.specs.declared.node.Expression.the-variants.{Base, Extension, Challenge, Operation, Input}
-use Rattle.circuit.specs.declared.node.Node.{Node}
-use Rattle.circuit.specs.Lists.{if_then_else_}
-use Rattle.circuit.specs.Words.{rowKind, used, limit, offset, word, decode, nodeAt, expressionAt, opKind, encode, made}
+use Rattle.layout.specs.declared.node.Position.{Position}
+use Rattle.layout.specs.declared.node.Position.the-variants.{Main, Aux, NextMain, NextAux}
+use Rattle.layout.specs.declared.node.Op.{Op}
+use Rattle.layout.specs.declared.node.Op.the-variants.{Add, Multiply}
+use Rattle.layout.specs.declared.node.Expression.{Expression}
+use Rattle.layout.specs.declared.node.Expression.the-variants.{Base, Extension, Challenge, Operation, Input}
+use Rattle.layout.specs.declared.node.Node.{Node}
+use Rattle.layout.specs.Lists.{if_then_else_}
+use Rattle.layout.specs.Words.{rowKind, used, limit, offset, word, decode, nodeAt, expressionAt, opKind, encode, made}
 use borrow.Author.Tests.{eqb-true}
-use Rattle.circuit.proofs.Tests.{below-or}
-use Rattle.circuit.proofs.Valid.{place-fits}
+use Rattle.layout.proofs.Tests.{below-or}
+use Rattle.layout.proofs.Valid.{place-fits}
 
 -- a node, by its parts
 abbrev pub node : Expression → Bool → ℕ → Node

@@ -9,17 +9,17 @@ use native.Mathlib.Omega.{arith}
 use lib.ListN.{length, set}
 use lib.Seq.{getD-set-same, getD-set-other}
 use borrow.Author.Count.{below-more}
-use Rattle.circuit.specs.declared.node.Op.{Op}
-use Rattle.circuit.specs.declared.node.Expression.{Expression}
-use Rattle.circuit.specs.declared.node.Expression.the-variants.{Base, Extension, Challenge, Operation, Input}
+use Rattle.layout.specs.declared.node.Op.{Op}
+use Rattle.layout.specs.declared.node.Expression.{Expression}
+use Rattle.layout.specs.declared.node.Expression.the-variants.{Base, Extension, Challenge, Operation, Input}
 use Rattle.circuit.specs.declared.check.Step.the-variants.{Stay, Two}
-use Rattle.circuit.specs.Lists.{upTo, any}
-use Rattle.circuit.specs.Words.{used, offset, expressionAt}
-use Rattle.circuit.specs.NotCircuit.{badNode, eitherOperand, goesOn, cyclic}
+use Rattle.layout.specs.Lists.{upTo, any}
+use Rattle.layout.specs.Words.{used, offset, expressionAt}
+use Rattle.layout.specs.NotCircuit.{badNode, eitherOperand, goesOn, cyclic}
 use Rattle.circuit.specs.Rank.{at}
 use Rattle.circuit.specs.Walk.{stepOf, finished, Unfinished, Taken, Walking, Walkable, Visiting, Visited, Ranked, Walked}
-use Rattle.circuit.proofs.Tests.{or-false, or-right, any-at, any-one, any-none, same-or, below-or, last-or}
-use Rattle.circuit.proofs.Valid.{header-top, header-room, header-fits, node-operands}
+use Rattle.layout.proofs.Tests.{or-false, or-right, any-at, any-one, any-none, same-or, below-or, last-or}
+use Rattle.layout.proofs.Valid.{header-top, header-room, header-fits, node-operands}
 use Rattle.circuit.proofs.Marks.{finished-lt, finished-all, finished-none, finished-set}
 
 -- what the step says of the expression

@@ -1,14 +1,3 @@
--- Reading order: as listed, after the field's Base and Extension.
-pub mod Lists
-pub mod Words
-pub mod Tree
-pub mod NotCircuit
-pub mod Outcomes
-pub mod Calls
+-- For the inner functions: the rank, then the walk that finds it.
 pub mod Rank
 pub mod Walk
-pub mod Answers
-pub mod Cycle
-pub mod Computing
-pub mod Samples
-pub mod Examples

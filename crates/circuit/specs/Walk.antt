@@ -6,14 +6,14 @@ use mathlib.Core.Bool.{Bool, true, false, not}
 use mathlib.Core.List.{List}
 use lib.ListN.{length}
 use lib.Dec.{ltb}
-use Rattle.circuit.specs.declared.node.Op.{Op}
-use Rattle.circuit.specs.declared.node.Expression.{Expression}
-use Rattle.circuit.specs.declared.node.Expression.the-variants.{Base, Extension, Challenge, Operation, Input}
+use Rattle.layout.specs.declared.node.Op.{Op}
+use Rattle.layout.specs.declared.node.Expression.{Expression}
+use Rattle.layout.specs.declared.node.Expression.the-variants.{Base, Extension, Challenge, Operation, Input}
 use Rattle.circuit.specs.declared.check.Step.{Step}
 use Rattle.circuit.specs.declared.check.Step.the-variants.{Stay, Two}
-use Rattle.circuit.specs.Lists.{if_then_else_, upTo, any}
-use Rattle.circuit.specs.Words.{used, expressionAt}
-use Rattle.circuit.specs.NotCircuit.{badHeader, badNode, goesOn, cyclic}
+use Rattle.layout.specs.Lists.{if_then_else_, upTo, any}
+use Rattle.layout.specs.Words.{used, expressionAt}
+use Rattle.layout.specs.NotCircuit.{badHeader, badNode, goesOn, cyclic}
 use Rattle.circuit.specs.Rank.{at, Sorted}
 
 -- what the walk does at a node

@@ -1,36 +1,20 @@
 // The public calls of this layer. They ask nothing of the words that are lent: all are checked, each time.
 use crate::check::check;
 use crate::check::limit_of;
-use crate::node::Node;
-use crate::node::RowKind;
 use crate::place::HEADER;
 use crate::place::node_at;
-use crate::refusal::BAD_ID;
-use crate::refusal::NOT_CIRCUIT;
+use layout::answer::Counted;
+use layout::answer::NodeRead;
+use layout::answer::Started;
+use layout::node::RowKind;
+use layout::refusal::BAD_ID;
+use layout::refusal::NOT_CIRCUIT;
 ghost use mathlib.Core.Path.{_≡_};
 ghost use mathlib.Core.Bool.{not};
-ghost use Rattle.circuit.specs.Words.{rowWord};
-ghost use Rattle.circuit.specs.NotCircuit.{notCircuit};
-ghost use Rattle.circuit.specs.Calls.{startCall, readCall, usedCall, freeCall};
-ghost use Rattle.circuit.specs.Answers.{toldStart, toldNode, toldCount};
-
-// A circuit without nodes, or why there is none.
-pub enum Started {
-    Fresh,
-    Refused(u64),
-}
-
-// A node, or why it was not read.
-pub enum NodeRead {
-    Found(Node),
-    Refused(u64),
-}
-
-// A number, or why it was not answered.
-pub enum Counted {
-    Count(u64),
-    Refused(u64),
-}
+ghost use Rattle.layout.specs.Words.{rowWord};
+ghost use Rattle.layout.specs.NotCircuit.{notCircuit};
+ghost use Rattle.layout.specs.Calls.{startCall, readCall, usedCall, freeCall};
+ghost use Rattle.layout.specs.Answers.{toldStart, toldNode, toldCount};
 
 fn row_word(kind: RowKind) -> u64
     ensures { λ r. ⌜ r ≡ rowWord kind ⌝ }

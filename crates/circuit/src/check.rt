@@ -1,19 +1,19 @@
 // The check for NOT_CIRCUIT, of any words: it refuses exactly where the definition does, and hands on the rank.
-use crate::node::Expression;
-use crate::node::Position;
 use crate::place::HEADER;
 use crate::place::PLACE;
 use crate::place::column_of;
 use crate::place::expression_at;
-use field::extension::Triple;
+use arithmetic::Triple;
 use field::extension::unlifts;
+use layout::node::Expression;
+use layout::node::Position;
 ghost use mathlib.Core.Path.{_≡_};
 ghost use mathlib.Core.Bool.{false};
 ghost use Prim.Native.Nat.{_+_, _<_, _≤_};
 ghost use lib.ListN.{length};
-ghost use Rattle.circuit.specs.Lists.{any, upTo};
-ghost use Rattle.circuit.specs.Words.{used, limit, offset, isNext};
-ghost use Rattle.circuit.specs.NotCircuit.{badRow, badIndex, badWord, badWords, badExpression, badNode, badHeader, notCircuit};
+ghost use Rattle.layout.specs.Lists.{any, upTo};
+ghost use Rattle.layout.specs.Words.{used, limit, offset, expressionAt, isNext};
+ghost use Rattle.layout.specs.NotCircuit.{badRow, badIndex, badWord, badWords, badExpression, badNode, badHeader, notCircuit};
 ghost use Rattle.circuit.specs.Rank.{Sorted, Checked};
 ghost use Rattle.circuit.specs.Walk.{stepOf, Unfinished, Walkable, Visiting, Visited, Walked, Placing, Placed, Ordered};
 
@@ -39,7 +39,7 @@ pub fn limit_of(m: &[u64]) -> u64
 }
 
 // No words for the row kind and the used count, unknown row kind, or more nodes than there is room for.
-pub fn bad_header(m: &[u64]) -> bool
+pub(crate) fn bad_header(m: &[u64]) -> bool
     ensures { λ r. ⌜ r ≡ badHeader (now (m .entry)) ⌝ }
 {
     if m.len() < HEADER {
@@ -55,7 +55,7 @@ pub fn bad_header(m: &[u64]) -> bool
 }
 
 // Whether an input is of the next row.
-pub fn is_next(q: Position) -> bool
+pub(crate) fn is_next(q: Position) -> bool
     ensures { λ r. ⌜ r ≡ isNext q ⌝ }
 {
     match q {
@@ -105,7 +105,7 @@ pub fn bad_words(x: Triple) -> bool
 }
 
 // What an expression has wrong, where it is a node's.
-pub fn bad_expression(m: &[u64], e: Expression) -> bool
+pub(crate) fn bad_expression(m: &[u64], e: Expression) -> bool
     requires { ⌜ 2 ≤ length (now m) ⌝ }
     ensures { λ r. ⌜ r ≡ badExpression (now (m .entry)) e ⌝ }
 {
@@ -180,6 +180,14 @@ fn step_of(e: Expression) -> Step
         Expression::Operation(_, l, r) => Step::Two(l, r),
         Expression::Input(_) => Step::Stay,
     }
+}
+
+// The operands of node i, if it is an operation.
+pub fn step_at(m: &[u64], i: u64) -> Step
+    requires { ⌜ offset i + 6 ≤ length (now m) ⌝ }
+    ensures { λ r. ⌜ r ≡ stepOf (expressionAt (now (m .entry)) i) ⌝ }
+{
+    step_of(expression_at(m, i))
 }
 
 // Finishes node i, after all below it, each once: a node whose rank is not below the used count is not finished. `done` are finished so far,

@@ -1,7 +1,6 @@
-// A circuit in lent words: what a node is (node), the words of a place (place), the check for NOT_CIRCUIT with its rank (check), the refusals'
-// numbers (refusal) and the public calls (calls). What the words say stands in specs/Words.antt.
+// A circuit in lent words: the words of a place (place), the check for NOT_CIRCUIT with its rank (check) and the public calls (calls). What the words
+// say stands in the crate layout.
 pub mod calls;
 pub mod check;
-pub mod node;
+pub mod constants;
 pub mod place;
-pub mod refusal;

@@ -1,15 +1,15 @@
 // The words of a place, read and written: nothing above this module knows where they stand.
-use crate::node::Expression;
-use crate::node::Node;
-use crate::node::Op;
-use crate::node::Position;
-use field::extension::Triple;
+use arithmetic::Triple;
+use layout::node::Expression;
+use layout::node::Node;
+use layout::node::Op;
+use layout::node::Position;
 ghost use mathlib.Core.Path.{_≡_};
 ghost use mathlib.Core.List.{[], _∷_};
 ghost use Prim.Native.Nat.{_+_, _<_, _≤_};
 ghost use lib.ListN.{length, set};
 ghost use lib.Seq.{sets};
-ghost use Rattle.circuit.specs.Words.{used, limit, offset, decode, expressionAt, nodeAt, opKind, inputKind, column, encode, made};
+ghost use Rattle.layout.specs.Words.{used, limit, offset, decode, expressionAt, nodeAt, opKind, inputKind, column, encode, made};
 
 // The words before the first place: the row kind and the used count.
 pub const HEADER: usize = 2;

@@ -1,16 +1,16 @@
 // Runs hand-made memories, damaged in one way each and at the edge of each bound, and compares the answers with those that document 01 asks for.
 // Says how many were compared, and the number of each that differs.
-use circuit::calls::Counted;
-use circuit::calls::NodeRead;
-use circuit::calls::Started;
 use circuit::calls::free;
 use circuit::calls::read;
 use circuit::calls::start;
 use circuit::calls::used;
-use circuit::node::RowKind;
 use circuit::place::words_of;
-use circuit::refusal::BAD_ID;
-use circuit::refusal::NOT_CIRCUIT;
+use layout::answer::Counted;
+use layout::answer::NodeRead;
+use layout::answer::Started;
+use layout::node::RowKind;
+use layout::refusal::BAD_ID;
+use layout::refusal::NOT_CIRCUIT;
 ghost use Prim.Native.Nat.{_<_, _≤_};
 
 // p - 1, the last word of the base field

@@ -4,17 +4,17 @@ use mathlib.Core.Path.{_≡_, refl, sym, ap, _∙_}
 use mathlib.Core.Bool.{true, false, _||_}
 use mathlib.Core.List.{List}
 use native.Mathlib.Omega.{arith}
-use Rattle.circuit.specs.declared.node.Op.{Op}
-use Rattle.circuit.specs.declared.node.Expression.{Expression}
-use Rattle.circuit.specs.declared.node.Expression.the-variants.{Base, Extension, Challenge, Operation, Input}
-use Rattle.circuit.specs.Words.{used, expressionAt, encode}
-use Rattle.circuit.specs.NotCircuit.{goesOn, notCircuit}
-use Rattle.circuit.specs.Tree.{Leaf, baseLeaf, extensionLeaf, challengeLeaf, inputLeaf, Tree, leaf, branch, treeOver, tree, plain}
+use Rattle.layout.specs.declared.node.Op.{Op}
+use Rattle.layout.specs.declared.node.Expression.{Expression}
+use Rattle.layout.specs.declared.node.Expression.the-variants.{Base, Extension, Challenge, Operation, Input}
+use Rattle.layout.specs.Words.{used, expressionAt, encode}
+use Rattle.layout.specs.NotCircuit.{goesOn, notCircuit}
+use Rattle.layout.specs.Tree.{Leaf, baseLeaf, extensionLeaf, challengeLeaf, inputLeaf, Tree, leaf, branch, treeOver, tree, plain}
 use Rattle.circuit.specs.Rank.{at}
-use Rattle.circuit.proofs.Tests.{neither}
-use Rattle.circuit.proofs.Lists.{clash}
-use Rattle.circuit.proofs.Valid.{valid-operands, valid-ends}
-use Rattle.circuit.proofs.Trees.{tree-fixed}
+use Rattle.layout.proofs.Tests.{neither}
+use Rattle.layout.proofs.Lists.{clash}
+use Rattle.layout.proofs.Valid.{valid-operands, valid-ends}
+use Rattle.layout.proofs.Trees.{tree-fixed}
 use Rattle.classes.specs.Table.{entry}
 use Rattle.classes.specs.Numbers.{keyOf, Numbered, itself}
 use Rattle.classes.proofs.Shapes.{shape, encode-one, plain-one}

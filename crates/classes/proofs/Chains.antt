@@ -9,9 +9,9 @@ use native.Mathlib.Numerals.{towards-suc}
 use native.Mathlib.Omega.{arith}
 use lib.ListN.{length, getD, set, take, drop, length-set, List·getD-append}
 use lib.Seq.{sets, sets-eq, length-take-le, getD-set-same, getD-set-other, getD-append-add, getD-take}
-use Rattle.circuit.specs.Lists.{sameWords}
-use Rattle.circuit.proofs.Tests.{last-or, below-or, same-or}
-use Rattle.circuit.proofs.Lists.{clash}
+use Rattle.layout.specs.Lists.{sameWords}
+use Rattle.layout.proofs.Tests.{last-or, below-or, same-or}
+use Rattle.layout.proofs.Lists.{clash}
 use Rattle.classes.specs.Table.{count, place, entry, link, head, spread, Last, Tabled, Sought, Roomy, Written, Interned}
 use Rattle.classes.proofs.Words.{words-refl, words-equal}
 

@@ -10,20 +10,20 @@ use lib.Dec.{eqb, leb}
 use lib.ListN.{length}
 use lib.Seq.{getD-set-other}
 use borrow.Author.Tests.{eq-eqb, eqb-true, le-leb, lt-leb, leb-false}
-use Rattle.circuit.specs.declared.node.Expression.{Expression}
-use Rattle.circuit.specs.declared.node.Expression.the-variants.{Base, Extension, Challenge, Operation, Input}
-use Rattle.circuit.specs.declared.node.Node.{Node}
-use Rattle.circuit.specs.Lists.{upTo, first}
-use Rattle.circuit.specs.Words.{used, limit, nodeAt, expressionAt, registered, made}
-use Rattle.circuit.specs.NotCircuit.{notCircuit, eitherOperand}
-use Rattle.circuit.specs.Tree.{tree, treeOf, same}
+use Rattle.layout.specs.declared.node.Expression.{Expression}
+use Rattle.layout.specs.declared.node.Expression.the-variants.{Base, Extension, Challenge, Operation, Input}
+use Rattle.layout.specs.declared.node.Node.{Node}
+use Rattle.layout.specs.Lists.{upTo, first}
+use Rattle.layout.specs.Words.{used, limit, nodeAt, expressionAt, registered, made}
+use Rattle.layout.specs.NotCircuit.{notCircuit, eitherOperand}
+use Rattle.layout.specs.Tree.{tree, treeOf, same}
 use Rattle.circuit.specs.Rank.{at}
-use Rattle.circuit.proofs.Tests.{neither, or-false, is-false, last-or}
-use Rattle.circuit.proofs.Lists.{clash, and-true, same-test, first-found, first-is, first-same, Found, Least}
+use Rattle.layout.proofs.Tests.{neither, or-false, is-false, last-or}
+use Rattle.layout.proofs.Lists.{clash, and-true, same-test, first-found, first-is, first-same, Found, Least}
 use Rattle.circuit.proofs.Places.{made-used, made-here, made-other}
-use Rattle.circuit.proofs.Valid.{valid-operands, valid-fits, valid-room, limit-top}
-use Rattle.circuit.proofs.Trees.{tree-fixed}
-use Rattle.circuit.proofs.Cycle.{either-map}
+use Rattle.layout.proofs.Valid.{valid-operands, valid-fits, valid-room, limit-top}
+use Rattle.layout.proofs.Trees.{tree-fixed}
+use Rattle.layout.proofs.Cycle.{either-map}
 use Rattle.classes.specs.Classes.{orItself, classOf}
 use Rattle.classes.specs.Table.{entry, Sought}
 use Rattle.classes.specs.Numbers.{keyOf, Numbered, itself, Enterable, Entered}

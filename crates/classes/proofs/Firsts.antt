@@ -11,10 +11,10 @@ use lib.Dec.{eqb}
 use lib.ListN.{length, getD, set, length-set, List·getD-eq-default}
 use lib.Seq.{getD-set-same, getD-set-other}
 use borrow.Author.Tests.{eq-eqb, ne-eqb}
-use Rattle.circuit.specs.Lists.{if_then_else_, upTo, first}
+use Rattle.layout.specs.Lists.{if_then_else_, upTo, first}
 use Rattle.circuit.specs.Rank.{at}
-use Rattle.circuit.proofs.Tests.{last-or, below-or, same-or}
-use Rattle.circuit.proofs.Lists.{clash, orNext, first-more, first-found, first-is, Found}
+use Rattle.layout.proofs.Tests.{last-or, below-or, same-or}
+use Rattle.layout.proofs.Lists.{clash, orNext, first-more, first-found, first-is, Found}
 use Rattle.classes.specs.Least.{slot, leastWith, anyId, Firsts, noted, Inside, Lowered}
 
 -- words made 0

@@ -9,15 +9,15 @@ use lib.Dec.{eqb}
 use lib.ListN.{length, getD, set}
 use lib.Seq.{getD-set-same, getD-set-other}
 use borrow.Author.Tests.{eqb-true, eqb-false, not-false}
-use Rattle.circuit.specs.declared.node.Expression.{Expression}
-use Rattle.circuit.specs.declared.node.Expression.the-variants.{Base, Extension, Challenge, Operation, Input}
-use Rattle.circuit.specs.Words.{used, expressionAt, encode}
-use Rattle.circuit.specs.NotCircuit.{notCircuit, eitherOperand}
+use Rattle.layout.specs.declared.node.Expression.{Expression}
+use Rattle.layout.specs.declared.node.Expression.the-variants.{Base, Extension, Challenge, Operation, Input}
+use Rattle.layout.specs.Words.{used, expressionAt, encode}
+use Rattle.layout.specs.NotCircuit.{notCircuit, eitherOperand}
 use Rattle.circuit.specs.Rank.{at, Sorted, Checked}
-use Rattle.circuit.proofs.Tests.{neither, either, is-false, last-or}
-use Rattle.circuit.proofs.Lists.{clash}
-use Rattle.circuit.proofs.Refusals.{accepts}
-use Rattle.circuit.proofs.Valid.{valid-fits, valid-room, limit-top}
+use Rattle.layout.proofs.Tests.{neither, either, is-false, last-or}
+use Rattle.layout.proofs.Lists.{clash}
+use Rattle.layout.proofs.Refusals.{accepts}
+use Rattle.layout.proofs.Valid.{valid-fits, valid-room, limit-top}
 use Rattle.classes.specs.Table.{count, place, entry}
 use Rattle.classes.specs.Numbers.{over, keyOf, Filed, Numbered, itself, Sized, Enterable, Entered, Orderly}
 

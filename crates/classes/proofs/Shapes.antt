@@ -6,14 +6,14 @@ use mathlib.Core.List.{List}
 use lib.Dec.{eqb}
 use lib.ListN.{getD}
 use borrow.Author.Tests.{eq-eqb}
-use Rattle.circuit.specs.declared.node.Op.{Op}
-use Rattle.circuit.specs.declared.node.Op.the-variants.{Add, Multiply}
-use Rattle.circuit.specs.declared.node.Expression.{Expression}
-use Rattle.circuit.specs.declared.node.Expression.the-variants.{Base, Extension, Challenge, Operation, Input}
-use Rattle.circuit.specs.Words.{opKind, decode, encode}
-use Rattle.circuit.specs.Tree.{Leaf, baseLeaf, extensionLeaf, challengeLeaf, inputLeaf, Tree, leaf, branch, plain, same}
+use Rattle.layout.specs.declared.node.Op.{Op}
+use Rattle.layout.specs.declared.node.Op.the-variants.{Add, Multiply}
+use Rattle.layout.specs.declared.node.Expression.{Expression}
+use Rattle.layout.specs.declared.node.Expression.the-variants.{Base, Extension, Challenge, Operation, Input}
+use Rattle.layout.specs.Words.{opKind, decode, encode}
+use Rattle.layout.specs.Tree.{Leaf, baseLeaf, extensionLeaf, challengeLeaf, inputLeaf, Tree, leaf, branch, plain, same}
 use Rattle.circuit.proofs.Places.{decode-encode}
-use Rattle.circuit.proofs.Lists.{clash, and-true, and-both, same-test}
+use Rattle.layout.proofs.Lists.{clash, and-true, and-both, same-test}
 use Rattle.classes.proofs.Words.{words-refl, words-equal}
 
 -- a tree without its ids

@@ -3,7 +3,7 @@ use Prim.Native.Nat.{ℕ}
 use mathlib.Core.Path.{_≡_, sym, ap}
 use mathlib.Core.Logic.{_≢_}
 use mathlib.Core.List.{List}
-use Rattle.circuit.proofs.Unique.{one-outcome, same-number, same-values}
+use Rattle.layout.proofs.Unique.{one-outcome, same-number, same-values}
 use Rattle.classes.specs.declared.Equal.{Equal}
 use Rattle.classes.specs.declared.Equal.the-variants.{Answer, Refused}
 use Rattle.classes.specs.Classes.{equalCall}

@@ -5,8 +5,8 @@ use mathlib.Core.Bool.{Bool, true, false, _&&_}
 use mathlib.Core.List.{List, [], _∷_}
 use lib.Dec.{eqb}
 use borrow.Author.Tests.{eq-eqb, ne-eqb, eqb-true}
-use Rattle.circuit.specs.Lists.{sameWords}
-use Rattle.circuit.proofs.Lists.{clash, and-true, and-both}
+use Rattle.layout.specs.Lists.{sameWords}
+use Rattle.layout.proofs.Lists.{clash, and-true, and-both}
 
 pub words-refl : (xs : List ℕ) → sameWords xs xs ≡ true
 unfolding sameWords

@@ -3,11 +3,11 @@ use Prim.Native.Nat.{ℕ}
 use mathlib.Core.Bool.{Bool, false}
 use mathlib.Core.Option.{Option, none, some}
 use mathlib.Core.List.{List, [], _∷_}
-use Rattle.circuit.specs.Lists.{upTo, first}
-use Rattle.circuit.specs.Words.{used}
-use Rattle.circuit.specs.Tree.{tree, same}
-use Rattle.circuit.specs.Outcomes.{Outcome}
-use Rattle.circuit.specs.Calls.{reading}
+use Rattle.layout.specs.Lists.{upTo, first}
+use Rattle.layout.specs.Words.{used}
+use Rattle.layout.specs.Tree.{tree, same}
+use Rattle.layout.specs.Outcomes.{Outcome}
+use Rattle.layout.specs.Calls.{reading}
 
 -- what was found, else i itself
 abbrev pub orItself : ℕ → Option ℕ → ℕ

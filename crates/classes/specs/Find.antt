@@ -7,12 +7,12 @@ use mathlib.Core.Option.{Option, none}
 use mathlib.Core.List.{List}
 use lib.ListN.{length}
 use lib.Dec.{leb, eqb}
-use Rattle.circuit.specs.declared.node.Expression.{Expression}
-use Rattle.circuit.specs.Lists.{upTo, first}
-use Rattle.circuit.specs.Words.{used, expressionAt, registered}
-use Rattle.circuit.specs.NotCircuit.{notCircuit, eitherOperand}
+use Rattle.layout.specs.declared.node.Expression.{Expression}
+use Rattle.layout.specs.Lists.{upTo, first}
+use Rattle.layout.specs.Words.{used, expressionAt, registered}
+use Rattle.layout.specs.NotCircuit.{notCircuit, eitherOperand}
 use Rattle.circuit.specs.Rank.{at}
-use Rattle.circuit.specs.Tree.{tree, treeOf, same}
+use Rattle.layout.specs.Tree.{tree, treeOf, same}
 use Rattle.classes.specs.declared.find.Place.{Place}
 use Rattle.classes.specs.declared.find.Place.the-variants.{At, Nowhere}
 use Rattle.classes.specs.Classes.{classOf}

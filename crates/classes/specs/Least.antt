@@ -6,7 +6,7 @@ use mathlib.Core.Option.{Option, none, some}
 use mathlib.Core.List.{List}
 use lib.ListN.{length, set}
 use lib.Dec.{eqb}
-use Rattle.circuit.specs.Lists.{if_then_else_, upTo, first}
+use Rattle.layout.specs.Lists.{if_then_else_, upTo, first}
 use Rattle.circuit.specs.Rank.{at}
 
 -- a word that stands for an id, or for none: i + 1 for i, 0 for none

@@ -1,7 +1,7 @@
 -- What the public call of this layer answers, in document 01's number and values. Assumes nothing.
 use mathlib.Core.Bool.{Bool, false}
-use Rattle.circuit.specs.Outcomes.{Outcome}
-use Rattle.circuit.specs.Answers.{accepted, refused}
+use Rattle.layout.specs.Outcomes.{Outcome}
+use Rattle.layout.specs.Answers.{accepted, refused}
 use Rattle.classes.specs.declared.Equal.{Equal}
 use Rattle.classes.specs.declared.Equal.the-variants.{Answer, Refused}
 

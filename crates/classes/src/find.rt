@@ -7,9 +7,9 @@ use crate::numbers::key_of;
 use crate::numbers::number_all;
 use crate::numbers::number_at;
 use crate::table::seek;
-use circuit::node::Expression;
+use layout::node::Expression;
 ghost use mathlib.Core.Path.{_≡_};
-ghost use Rattle.circuit.specs.Words.{used};
+ghost use Rattle.layout.specs.Words.{used};
 ghost use Rattle.classes.specs.Find.{placed, leastEqual, Classed, Fillable, Sorting, Findable, Joinable};
 
 // The class of each node: the least id of equal structure. The table and the least ids are work of the call.

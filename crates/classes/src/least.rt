@@ -6,15 +6,15 @@ ghost use mathlib.Core.Path.{_≡_};
 ghost use mathlib.Core.Bool.{false};
 ghost use Prim.Native.Nat.{_+_, _<_, _≤_};
 ghost use lib.ListN.{length};
-ghost use Rattle.circuit.specs.Words.{used, offset, registered};
-ghost use Rattle.circuit.specs.NotCircuit.{notCircuit};
+ghost use Rattle.layout.specs.Words.{used, offset, registered};
+ghost use Rattle.layout.specs.NotCircuit.{notCircuit};
 ghost use Rattle.classes.specs.Least.{noted, Firsts, Inside, Lowered};
 
 // A least id for each of 4,096 numbers, which begin with 1.
 pub const LEAST: usize = 4097;
 
 // i is the least id of number v, unless it has one.
-pub fn note(least: &mut [u64], v: u64, i: u64)
+pub(crate) fn note(least: &mut [u64], v: u64, i: u64)
     requires { ⌜ (v < length (now least)) × (i < 4096) ⌝ }
     ensures { λ r. ⌜ now (least .exit) ≡ noted (now (least .entry)) v i ⌝ }
 {
@@ -34,7 +34,7 @@ fn is_registered(m: &[u64], i: u64) -> bool
 }
 
 // The least registered id of each number.
-pub fn list_registered(m: &[u64], numbers: &[u64], least: &mut [u64])
+pub(crate) fn list_registered(m: &[u64], numbers: &[u64], least: &mut [u64])
     requires { ⌜ (notCircuit (now m) ≡ false) × Inside (now numbers) (now least) (used (now m)) ⌝ }
     ensures { λ r. ⌜ Firsts (registered (now (m .entry))) (now (numbers .entry)) (now (least .exit)) (used (now (m .entry))) ⌝ }
 {
@@ -50,7 +50,7 @@ pub fn list_registered(m: &[u64], numbers: &[u64], least: &mut [u64])
 }
 
 // Each number becomes the least id that has it.
-pub fn least_ids(class: &mut [u64], least: &mut [u64], n: u64)
+pub(crate) fn least_ids(class: &mut [u64], least: &mut [u64], n: u64)
     requires { ⌜ Inside (now class) (now least) n ⌝ }
     ensures { λ r. ⌜ Lowered (now (class .entry)) (now (class .exit)) n ⌝ }
 {

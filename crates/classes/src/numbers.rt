@@ -1,14 +1,14 @@
 // Class numbers: nodes that are equal by structure have one number. Each node's key is its expression over its operands' numbers.
 use crate::table::HEADS;
 use crate::table::intern;
-use circuit::node::Expression;
 use circuit::place::FourWords;
 use circuit::place::expression_at;
 use circuit::place::words_of;
+use layout::node::Expression;
 ghost use mathlib.Core.Path.{_≡_};
 ghost use Prim.Native.Nat.{ℕ, _+_, _<_, _≤_};
 ghost use lib.ListN.{length, getD};
-ghost use Rattle.circuit.specs.Words.{used};
+ghost use Rattle.layout.specs.Words.{used};
 ghost use Rattle.circuit.specs.Rank.{at};
 ghost use Rattle.classes.specs.Table.{listed};
 ghost use Rattle.classes.specs.Numbers.{over, keyOf, itself, Numbered, Enterable, Entered, Orderly};
@@ -17,7 +17,7 @@ ghost use Rattle.classes.specs.Numbers.{over, keyOf, itself, Numbered, E
 pub const NUMBERS: usize = 4096;
 
 // The number of a node, 0 beyond the end.
-pub fn number_at(numbers: &[u64], i: u64) -> u64
+pub(crate) fn number_at(numbers: &[u64], i: u64) -> u64
     ensures { λ r. ⌜ r ≡ at (now (numbers .entry)) i ⌝ }
 {
     let k = i as usize;
@@ -45,14 +45,14 @@ fn over_numbers(numbers: &[u64], e: Expression) -> Expression
 }
 
 // The key of an expression.
-pub fn key_of(numbers: &[u64], e: Expression) -> FourWords
+pub(crate) fn key_of(numbers: &[u64], e: Expression) -> FourWords
     ensures { λ r. ⌜ listed r ≡ keyOf (now (numbers .entry)) e ⌝ }
 {
     words_of(over_numbers(numbers, e))
 }
 
 // A node, whose operands have their numbers, gets its own.
-pub fn enter_one(m: &[u64], i: u64, numbers: &mut [u64], table: &mut [u64])
+pub(crate) fn enter_one(m: &[u64], i: u64, numbers: &mut [u64], table: &mut [u64])
     requires { ⌜ Enterable (now m) (now numbers) (now table) i ⌝ }
     ensures { λ r. ⌜ Entered (now (m .entry)) (now (numbers .entry)) (now (table .entry)) (now (numbers .exit)) (now (table .exit)) i ⌝ }
 {
@@ -64,7 +64,7 @@ pub fn enter_one(m: &[u64], i: u64, numbers: &mut [u64], table: &mut [u64])
 }
 
 // The first n words become 0.
-pub fn blank(s: &mut [u64], n: usize)
+pub(crate) fn blank(s: &mut [u64], n: usize)
     requires { ⌜ n ≤ length (now s) ⌝ }
     ensures { λ r. ⌜ ((j : ℕ) → j < n → getD (now (s .exit)) j 0 ≡ 0) ⌝ }
 {
@@ -76,7 +76,13 @@ pub fn blank(s: &mut [u64], n: usize)
 }
 
 // Each node gets its number, after its operands. The rank is not read: that the order undoes it is what makes each node's turn come.
-pub fn number_all(m: &[u64], order: &[u64], rank: &[u64], numbers: &mut [u64], table: &mut [u64])
+pub(crate) fn number_all(
+    m: &[u64],
+    order: &[u64],
+    rank: &[u64],
+    numbers: &mut [u64],
+    table: &mut [u64],
+)
     requires { ⌜ Orderly (now m) (now order) (now rank) (now numbers) (now table) ⌝ }
     ensures { λ r. ⌜ Numbered (now (m .entry)) itself (used (now (m .entry))) (now (numbers .exit)) (now (table .exit)) ⌝ }
 {

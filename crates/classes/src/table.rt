@@ -3,7 +3,7 @@ use circuit::place::FourWords;
 ghost use mathlib.Core.Path.{_≡_};
 ghost use Prim.Native.Nat.{_+_, _≤_};
 ghost use lib.ListN.{length};
-ghost use Rattle.circuit.specs.Lists.{sameWords};
+ghost use Rattle.layout.specs.Lists.{sameWords};
 ghost use Rattle.classes.specs.Table.{place, entry, listed, spread, Tabled, Sought, Roomy, Written, Interned};
 
 // The words of a table of 4,096 keys.
@@ -50,7 +50,7 @@ fn is_key(table: &[u64], v: u64, w: FourWords) -> bool
 }
 
 // The number of a key, or 0.
-pub fn seek(table: &[u64], w: FourWords) -> u64
+pub(crate) fn seek(table: &[u64], w: FourWords) -> u64
     requires { ⌜ Tabled (now table) ⌝ }
     ensures { λ r. ⌜ Sought (now (table .entry)) (listed w) r ⌝ }
 {
@@ -80,7 +80,7 @@ fn write_key(table: &mut [u64], v: u64, w: FourWords, before: u64)
 }
 
 // The number of a key, which is added where it has none.
-pub fn intern(table: &mut [u64], w: FourWords) -> u64
+pub(crate) fn intern(table: &mut [u64], w: FourWords) -> u64
     requires { ⌜ Roomy (now table) ⌝ }
     ensures { λ r. ⌜ Interned (now (table .entry)) (now (table .exit)) (listed w) r ⌝ }
 {

@@ -1,5 +1,5 @@
-// Document 01's edges that are run: 4,096 nodes fit and one more is FULL, columns and challenges up to 65,535, a target of 2, and a column count
-// that is just enough. Says what each call answers: the id, both counts, or the number of the refusal.
+// Document 01's edges that are run: 4,096 nodes fit and one more is FULL, columns and challenges up to 65,535, a target of 2, a column count that is
+// just enough, and the bounds of degrees and of path counts. Says what each call answers: the id, the counts, the degree, or the number of the refusal.
 use build_calls::calls::base_constant;
 use build_calls::calls::challenge;
 use build_calls::calls::input;
@@ -8,16 +8,21 @@ use build_calls::calls::operation;
 use build_calls::calls::subtract;
 use build_calls::calls::sum;
 use building::Answer;
-use circuit::calls::Counted;
-use circuit::calls::Started;
 use circuit::calls::free;
+use circuit::calls::read;
 use circuit::calls::start;
 use circuit::calls::used;
-use circuit::node::Op;
-use circuit::node::Position;
-use circuit::node::RowKind;
+use layout::answer::Counted;
+use layout::answer::NodeRead;
+use layout::answer::Started;
+use layout::node::Op;
+use layout::node::Position;
+use layout::node::RowKind;
 use lower::calls::lower;
 use lowering::Lowered;
+use paths::references::count_references;
+use read::degree::degree;
+use reading::answer::Degree;
 
 // 4,096 places, and one more that no circuit uses.
 const WORDS: usize = 24584;
@@ -173,6 +178,113 @@ fn lowering(what: &[u8], target: u64, count: u64) {
     );
 }
 
+fn id_of(a: Answer) -> u64 {
+    match a {
+        Answer::Id(i) => i,
+        Answer::Refused(_) => 0,
+    }
+}
+
+// From node k up to n, the next node is node k, twice.
+fn double(m: &mut [u64], o: Op, first: u64, n: u64) {
+    let mut k = first;
+    while k < n {
+        operation(m, o, k, k);
+        k += 1;
+    }
+}
+
+// All of these nodes together, the first up to the n-th: 1 + 2 + 4 + .. times the first.
+fn join(m: &mut [u64], o: Op, n: u64) -> u64 {
+    let mut all: u64 = 0;
+    let mut k: u64 = 0;
+    while k < n {
+        k += 1;
+        all = id_of(operation(m, o, all, k));
+    }
+    all
+}
+
+// Whether a degree that is told is the right one.
+fn say_equal(n: i64, right: i64) {
+    if n == right {
+        io::write_all(1, b"told");
+    } else {
+        io::write_all(1, b"another is told");
+    }
+}
+
+fn say_degree(what: &[u8], d: Degree, right: i64) {
+    io::write_all(1, what);
+    match d {
+        Degree::Found(n) => say_equal(n, right),
+        Degree::Refused(n) => say(b"refused ", n),
+    }
+    io::write_all(1, b"\n");
+}
+
+// x^(2^31 - 1), and x times that.
+fn degrees() {
+    let mut m = [0u64; 512];
+    say_started(start(&mut m, RowKind::Single));
+    input(&mut m, Position::Main(0));
+    double(&mut m, Op::Multiply, 0, 30);
+    let top = join(&mut m, Op::Multiply, 30);
+    say_degree(b"degree 2,147,483,647: ", degree(&m, top), 2147483647);
+    let over = id_of(operation(&mut m, Op::Multiply, top, 0));
+    say_degree(b"degree 2,147,483,648: ", degree(&m, over), 2147483648);
+}
+
+fn references_of(n: NodeRead) -> u64 {
+    match n {
+        NodeRead::Found(node) => node.references,
+        NodeRead::Refused(_) => 0,
+    }
+}
+
+// The paths from the roots to node 0, counted.
+fn say_paths(what: &[u8], m: &mut [u64], roots: &[u64]) {
+    io::write_all(1, what);
+    match count_references(m, roots) {
+        walking::Counted::Written => say(b"", references_of(read(m, 0))),
+        walking::Counted::Refused(n) => say(b"refused ", n),
+    }
+    io::write_all(1, b"\n");
+}
+
+// (2^32 - 1)·x as a sum, and x added to that.
+fn paths() {
+    let mut m = [0u64; 512];
+    say_started(start(&mut m, RowKind::Single));
+    input(&mut m, Position::Main(0));
+    double(&mut m, Op::Add, 0, 31);
+    let top = join(&mut m, Op::Add, 31);
+    say_paths(b"4,294,967,295 paths: ", &mut m, &[top]);
+    let over = id_of(operation(&mut m, Op::Add, top, 0));
+    say_paths(b"4,294,967,296 paths: ", &mut m, &[over]);
+    say_paths(b"the same root twice: ", &mut m, &[over, over]);
+}
+
+fn say_lowering(what: &[u8], m: &mut [u64], roots: &mut [u64]) {
+    let mut main = [0u64; 64];
+    let mut aux = [0u64; 64];
+    say_lowered(what, lower(m, roots, 2, 2, 0, &mut main, &mut aux));
+}
+
+// x³, doubled 31 times, is high each time: x² has 1 + 2 + 4 + .. = 2^32 - 1 occurrences, and one more below x²·y.
+fn occurrences() {
+    let mut m = [0u64; 1024];
+    say_started(start(&mut m, RowKind::Single));
+    input(&mut m, Position::Main(0));
+    operation(&mut m, Op::Multiply, 0, 0);
+    operation(&mut m, Op::Multiply, 1, 0);
+    double(&mut m, Op::Add, 2, 33);
+    let y = id_of(input(&mut m, Position::Main(1)));
+    let other = id_of(operation(&mut m, Op::Multiply, 1, y));
+    say_lowering(b"4,294,967,296 occurrences: ", &mut m, &mut [33, other]);
+    say_lowering(b"4,294,967,295 occurrences: ", &mut m, &mut [33]);
+}
+
 fn main() {
     nodes();
     indices();
@@ -183,4 +295,7 @@ fn main() {
     lowering(b"target 2, main count 65,533: ", 2, 65533);
     lowering(b"target 2, main count 65,534: ", 2, 65534);
     lowering(b"target 2, main count 65,535: ", 2, 65535);
+    degrees();
+    paths();
+    occurrences();
 }

@@ -4,10 +4,10 @@ use mathlib.Core.List.{List}
 use Prim.Native.Nat.{ℕ, _<_}
 use native.Mathlib.Omega.{arith}
 use lib.ListN.{getD}
-use Rattle.field.specs.Base.{p, add, multiply, subtract}
-use Rattle.field.specs.Extension.{triple, coefficients, folded}
+use Rattle.arithmetic.specs.Base.{p, add, multiply, subtract}
+use Rattle.arithmetic.specs.Extension.{triple, coefficients, folded}
 use Rattle.field.specs.Words.{Difference}
-use Rattle.field.specs.declared.extension.Triple.{Triple}
+use Rattle.arithmetic.specs.declared.Triple.{Triple}
 use Rattle.field.proofs.Words.{differs}
 
 -- five remainders

@@ -4,11 +4,11 @@ use Prim.Native.Nat.{ℕ, _+_, _-_, _*_, _/_, _%_, _^_, _≤_, _<_}
 use native.Mathlib.Nat.{zero-add, add-zero, mod-mod, mod-eq-of-lt, mod-add-mod, add-mod-mod, add-assoc, add-comm, add-left-comm, mul-assoc, mul-comm, mul-left-comm, mul-add, add-mul, mul-le-mul, le-pred-of-lt}
 use lib.Pow.{split}
 use native.Mathlib.Omega.{arith}
-use Rattle.field.specs.Base.{p, add, subtract, negate}
+use Rattle.arithmetic.specs.Base.{p, add, subtract, negate}
 use Rattle.field.specs.declared.base.Carried.{Carried}
 use Rattle.field.specs.declared.base.Wide.{Wide}
 use Rattle.field.specs.Words.{Added, Difference, plain, around, Product, value}
-use Rattle.field.proofs.Remainders.{mod-eq}
+use Rattle.arithmetic.proofs.Remainders.{mod-eq}
 
 -- the three ways out of a sum: with both quotients known, each is linear
 

@@ -3,7 +3,7 @@ use Prim.Native.Nat.{ℕ, _+_, _*_, _^_, _≤_, _<_}
 use mathlib.Core.Path.{_≡_}
 use Rattle.field.specs.declared.base.Carried.{Carried}
 use Rattle.field.specs.declared.base.Wide.{Wide}
-use Rattle.field.specs.Base.{p}
+use Rattle.arithmetic.specs.Base.{p}
 
 -- r is a + b
 pub record Added (a b : ℕ) (r : Carried) : Type 0 where

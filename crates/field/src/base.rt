@@ -4,7 +4,7 @@
 // Two facts carry the whole file: 2^64 is 2^32 - 1 modulo p, and so 2^96 = 2^64 · 2^32 is 2^64 - 2^32, which is -1.
 ghost use mathlib.Core.Path.{_≡_};
 ghost use Prim.Native.Nat.{_+_, _*_, _%_, _≤_, _<_};
-ghost use Rattle.field.specs.Base.{p, canonical, add, subtract, negate, multiply};
+ghost use Rattle.arithmetic.specs.Base.{p, canonical, add, subtract, negate, multiply};
 ghost use Rattle.field.specs.Words.{Added, Difference, Product, WithProduct, value};
 use std::num::wrapping_add_u64;
 use std::num::wrapping_sub_u64;

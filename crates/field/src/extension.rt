@@ -1,25 +1,14 @@
 // The extension field: triples by value. Each function takes all words, as the base field's do.
 ghost use mathlib.Core.Path.{_≡_};
-ghost use Rattle.field.specs.Extension as extension;
-ghost use Rattle.field.specs.Unlift.{unlift};
+ghost use Rattle.arithmetic.specs.Extension as extension;
+ghost use Rattle.arithmetic.specs.Unlift.{unlift};
 use super::base;
 use super::base::difference;
 use super::base::sum;
 use super::base::three_products;
 use super::base::two_products;
-
-// c0 + c1·X + c2·X²
-pub struct Triple {
-    pub c0: u64,
-    pub c1: u64,
-    pub c2: u64,
-}
-
-// What unlifting gives: the word of the base field, or nothing where c1 or c2 is not 0.
-pub enum Unlifted {
-    Word(u64),
-    Nothing,
-}
+use arithmetic::Triple;
+use arithmetic::Unlifted;
 
 // The test for an element of the extension: each word is its own remainder.
 pub fn is_canonical(a: Triple) -> bool

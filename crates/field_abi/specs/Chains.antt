@@ -1,8 +1,8 @@
 -- What the exported chains compute: n products, each of the two numbers before it, as Fibonacci's are sums. Assumes nothing.
 use Prim.Native.Nat.{ℕ, zero, suc}
-use Rattle.field.specs.Base.{multiply}
-use Rattle.field.specs.Extension.{times}
-use Rattle.field.specs.declared.extension.Triple.{Triple}
+use Rattle.arithmetic.specs.Base.{multiply}
+use Rattle.arithmetic.specs.Extension.{times}
+use Rattle.arithmetic.specs.declared.Triple.{Triple}
 
 unfoldable pub chain : {A : Type 0} → (A → A → A) → A → A → ℕ → A
 chain f x y zero = x

@@ -1,12 +1,12 @@
 // The fields' products as a static library, for programs in other languages. A call into it cannot be inlined there, so chains
 // are here too: they make n products in one call.
 ghost use mathlib.Core.Path.{_≡_};
-ghost use Rattle.field.specs.Base.{multiply};
-ghost use Rattle.field.specs.Extension.{triple};
+ghost use Rattle.arithmetic.specs.Base.{multiply};
+ghost use Rattle.arithmetic.specs.Extension.{triple};
 ghost use Rattle.field_abi.specs.Chains.{wordChain, tripleChain};
+use arithmetic::Triple;
 use field::base;
 use field::extension;
-use field::extension::Triple;
 
 #[no_mangle]
 pub extern "C" fn field_multiply(a: u64, b: u64) -> u64

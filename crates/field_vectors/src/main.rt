@@ -2,10 +2,10 @@
 // bench/field/vectors.py writes them. Prints how many were compared and how many disagree.
 ghost use Prim.Native.Nat.{_+_, _<_, _≤_};
 ghost use lib.ListN.{length};
+use arithmetic::Triple;
+use arithmetic::Unlifted;
 use field::base;
 use field::extension;
-use field::extension::Triple;
-use field::extension::Unlifted;
 use libc::STDIN_FILENO;
 use libc::STDOUT_FILENO;
 

@@ -10,8 +10,8 @@ use lib.ListN.{length, getD, drop, drop-of-length-le}
 use lib.Seq.{drop-cons}
 use lib.Dec.{ltb, leb}
 use borrow.Author.Tests.{lt-ltb, le-ltb, le-leb, lt-leb, leb-true, leb-false}
-use Rattle.circuit.specs.Lists.{if_then_else_, all}
-use Rattle.circuit.proofs.Lists.{clash}
+use Rattle.layout.specs.Lists.{if_then_else_, all}
+use Rattle.layout.proofs.Lists.{clash}
 use Rattle.framing.specs.Digits.{isDigit, digit, bytesOf, numberAt, character}
 
 -- which are digits, by their order

@@ -6,7 +6,7 @@ use mathlib.Core.List.{List}
 use lib.ListN.{length}
 use lib.Dec.{eqb}
 use borrow.Author.Tests.{eq-eqb, ne-eqb}
-use Rattle.circuit.specs.Lists.{if_then_else_, all}
+use Rattle.layout.specs.Lists.{if_then_else_, all}
 use Rattle.framing.specs.declared.Request.{Request}
 use Rattle.framing.specs.declared.Request.the-variants.{Nothing}
 use Rattle.framing.specs.declared.Form.{Form}

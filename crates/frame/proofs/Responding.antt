@@ -9,17 +9,17 @@ use lib.Seq.{sets, sets-eq, take-nil, length-take-le, drop-drop}
 use lib.Dec.{eqb}
 use borrow.Author.Tests.{eq-eqb, ne-eqb}
 use borrow.Rule.Slice.PartMut.{midOf, putMid}
-use Rattle.circuit.specs.declared.node.RowKind.{RowKind}
-use Rattle.circuit.specs.declared.node.RowKind.the-variants.{Single, Dual}
-use Rattle.circuit.specs.declared.calls.Started.{Started}
-use Rattle.circuit.specs.declared.calls.Started.the-variants as started
-use Rattle.circuit.specs.Lists.{if_then_else_}
-use Rattle.circuit.specs.Words.{rowKind, used}
-use Rattle.circuit.specs.NotCircuit.{badId}
-use Rattle.circuit.specs.Outcomes.{Outcome, refusal}
-use Rattle.circuit.specs.Calls.{startCall}
-use Rattle.circuit.specs.Answers.{toldStart}
-use Rattle.circuit.proofs.Refusals.{refusal-here, refusal-next, refusal-none, bad-id-here, bad-id-next, no-bad-id}
+use Rattle.layout.specs.declared.node.RowKind.{RowKind}
+use Rattle.layout.specs.declared.node.RowKind.the-variants.{Single, Dual}
+use Rattle.layout.specs.declared.answer.Started.{Started}
+use Rattle.layout.specs.declared.answer.Started.the-variants as started
+use Rattle.layout.specs.Lists.{if_then_else_}
+use Rattle.layout.specs.Words.{rowKind, used}
+use Rattle.layout.specs.NotCircuit.{badId}
+use Rattle.layout.specs.Outcomes.{Outcome, refusal}
+use Rattle.layout.specs.Calls.{startCall}
+use Rattle.layout.specs.Answers.{toldStart}
+use Rattle.layout.proofs.Refusals.{refusal-here, refusal-next, refusal-none, bad-id-here, bad-id-next, no-bad-id}
 use Rattle.building.specs.declared.Answer.{Answer}
 use Rattle.building.specs.declared.Answer.the-variants as answer
 use Rattle.building.specs.Told.{toldId}

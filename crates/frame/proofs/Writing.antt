@@ -10,7 +10,7 @@ use lib.Dec.{eqb}
 use lib.ListN.{length, getD, set, take, length-append, length-take}
 use lib.Seq.{sets, set-out, take-suc, take-all, length-take-le}
 use borrow.Author.Tests.{eq-eqb, ne-eqb}
-use Rattle.circuit.specs.Lists.{if_then_else_}
+use Rattle.layout.specs.Lists.{if_then_else_}
 use Rattle.framing.specs.Digits.{character, hexadecimal, two, twos}
 use Rattle.framing.specs.declared.Reply.{Reply}
 use Rattle.framing.specs.declared.Reply.the-variants.{Bare, Id, Counts}

@@ -2,7 +2,7 @@
 ghost use mathlib.Core.Path.{_≡_};
 ghost use Prim.Native.Nat.{_+_, _*_, _<_, _≤_};
 ghost use lib.ListN.{length, getD};
-ghost use Rattle.circuit.specs.Lists.{all};
+ghost use Rattle.layout.specs.Lists.{all};
 ghost use Rattle.framing.specs.Digits.{isDigit, digit, bytesOf, numberAt, character};
 
 fn is_digit(c: u8) -> bool

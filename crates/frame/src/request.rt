@@ -1,10 +1,10 @@
 // What a line asks for: the opcode byte decides the length and meaning of the rest.
 use crate::digits::all_digits;
 use crate::digits::number;
-use circuit::node::Op;
-use field::extension::Triple;
+use arithmetic::Triple;
 use framing::Form;
 use framing::Request;
+use layout::node::Op;
 ghost use mathlib.Core.Path.{_≡_};
 ghost use Prim.Native.Nat.{_≤_};
 ghost use Rattle.framing.specs.Digits.{bytesOf};

@@ -5,16 +5,16 @@ use mathlib.Core.List.{List, [], _∷_, _++_}
 use lib.ListN.{length, take}
 use lib.Seq.{sets}
 use lib.Dec.{eqb}
-use Rattle.circuit.specs.declared.node.RowKind.{RowKind}
-use Rattle.circuit.specs.declared.node.RowKind.the-variants.{Single, Dual}
-use Rattle.circuit.specs.declared.node.Position.the-variants.{Main, Aux, NextMain, NextAux}
-use Rattle.circuit.specs.declared.calls.Started.{Started}
-use Rattle.circuit.specs.declared.calls.Started.the-variants as started
-use Rattle.circuit.specs.Lists.{if_then_else_}
-use Rattle.circuit.specs.Words.{rowKind}
-use Rattle.circuit.specs.NotCircuit.{badId}
-use Rattle.circuit.specs.Outcomes.{Outcome, refusal}
-use Rattle.circuit.specs.Calls.{startCall}
+use Rattle.layout.specs.declared.node.RowKind.{RowKind}
+use Rattle.layout.specs.declared.node.RowKind.the-variants.{Single, Dual}
+use Rattle.layout.specs.declared.node.Position.the-variants.{Main, Aux, NextMain, NextAux}
+use Rattle.layout.specs.declared.answer.Started.{Started}
+use Rattle.layout.specs.declared.answer.Started.the-variants as started
+use Rattle.layout.specs.Lists.{if_then_else_}
+use Rattle.layout.specs.Words.{rowKind}
+use Rattle.layout.specs.NotCircuit.{badId}
+use Rattle.layout.specs.Outcomes.{Outcome, refusal}
+use Rattle.layout.specs.Calls.{startCall}
 use Rattle.building.specs.declared.Answer.{Answer}
 use Rattle.building.specs.declared.Answer.the-variants as answer
 use Rattle.building.specs.Calls.{inputCall, challengeCall, baseCall, extensionCall, operationCall, subtractCall, negateCall}

@@ -2,9 +2,9 @@
 use Prim.Native.Nat.{ℕ, _-_}
 use mathlib.Core.List.{List, [], _∷_}
 use lib.Dec.{T}
-use Rattle.field.specs.Base.{p}
-use Rattle.circuit.specs.Lists.{agree}
-use Rattle.circuit.specs.Outcomes.{Outcome}
+use Rattle.arithmetic.specs.Base.{p}
+use Rattle.layout.specs.Lists.{agree}
+use Rattle.layout.specs.Outcomes.{Outcome}
 use Rattle.framing.specs.Texts.{bytes, program, rootsAfter, nodes, degreeAfter, textsCompute}
 
 -- what is worked out, and what follows from document 01

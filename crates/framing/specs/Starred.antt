@@ -2,9 +2,9 @@
 use Prim.Native.Nat.{ℕ, _-_, _^_}
 use mathlib.Core.List.{List, [], _∷_, _++_}
 use lib.Dec.{T}
-use Rattle.field.specs.Base.{p, add, multiply}
-use Rattle.field.specs.Extension.{triple, times}
-use Rattle.circuit.specs.Lists.{agree}
+use Rattle.arithmetic.specs.Base.{p, add, multiply}
+use Rattle.arithmetic.specs.Extension.{triple, times}
+use Rattle.layout.specs.Lists.{agree}
 use Rattle.reading.specs.Examples.{words}
 use Rattle.framing.specs.Texts.{bytes, program, nodes, degreeAfter, textsCompute}
 

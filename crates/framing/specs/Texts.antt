@@ -4,8 +4,8 @@ use Prim.Native.Char.{code}
 use Prim.Native.String.{String, [] as end, _∷_ as next}
 use mathlib.Core.List.{List, [], _∷_}
 use lib.ListN.{take, drop}
-use Rattle.circuit.specs.Words.{used, offset}
-use Rattle.circuit.specs.Outcomes.{Outcome}
+use Rattle.layout.specs.Words.{used, offset}
+use Rattle.layout.specs.Outcomes.{Outcome}
 use Rattle.reading.specs.Calls.{degreeCall}
 use Rattle.reading.specs.Examples.{integer, words}
 use Rattle.framing.specs.States.{State, rootsOf, fresh}

@@ -1,6 +1,6 @@
 // Document 01, "The frame program", as definitions. What answers a line is the crate frame.
-use circuit::node::Op;
-use field::extension::Triple;
+use arithmetic::Triple;
+use layout::node::Op;
 
 // A frame, its numbers read. A line that is none asks for nothing.
 pub enum Request {

@@ -9,10 +9,10 @@ use native.Mathlib.Omega.{arith}
 use native.Mathlib.Decide.{decLt}
 use lib.ListN.{length, getD, length-append, List·getD-append}
 use lib.Seq.{getD-append-seam}
-use Rattle.circuit.specs.declared.node.Position.{Position}
-use Rattle.circuit.specs.declared.node.Position.the-variants.{Main, Aux}
-use Rattle.circuit.specs.Words.{used, limit, registered, column, isMain}
-use Rattle.circuit.specs.Tree.{inputLeaf, tree}
+use Rattle.layout.specs.declared.node.Position.{Position}
+use Rattle.layout.specs.declared.node.Position.the-variants.{Main, Aux}
+use Rattle.layout.specs.Words.{used, limit, registered, column, isMain}
+use Rattle.layout.specs.Tree.{inputLeaf, tree}
 use Rattle.reading.specs.Readings.{isBase}
 use Rattle.lowering.specs.Lowering.{Lowering, tooHigh, candidates, best, substituted}
 use Rattle.lowering.proofs.Shape.{leafE, Shape, Unf, baseS}

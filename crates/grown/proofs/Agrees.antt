@@ -3,9 +3,9 @@ use Prim.Native.Nat.{ℕ, _<_}
 use mathlib.Core.Path.{_≡_, refl, sym, ap₂, _∙_}
 use mathlib.Core.Option.{some}
 use mathlib.Core.List.{List}
-use Rattle.circuit.specs.declared.node.Position.{Position}
-use Rattle.circuit.specs.Words.{used, apply}
-use Rattle.circuit.specs.Tree.{baseLeaf, extensionLeaf, challengeLeaf, inputLeaf, tree}
+use Rattle.layout.specs.declared.node.Position.{Position}
+use Rattle.layout.specs.Words.{used, apply}
+use Rattle.layout.specs.Tree.{baseLeaf, extensionLeaf, challengeLeaf, inputLeaf, tree}
 use Rattle.reading.specs.Readings.{Assignment, inputValue, value}
 use Rattle.lowering.proofs.Shape.{leafE, Shape, lf, op, Look, Unf, val}
 use Rattle.lowering.proofs.Words.{look, Sound}

@@ -7,10 +7,10 @@ use mathlib.Core.Option.{some}
 use mathlib.Core.List.{List}
 use native.Mathlib.Decide.{ℕ-discrete, decLt}
 use native.Mathlib.Omega.{arith}
-use Rattle.circuit.specs.declared.node.Position.{Position}
-use Rattle.circuit.specs.Words.{used, registered}
-use Rattle.circuit.specs.Tree.{Leaf, inputLeaf, Tree, leaf, branch, tree, same}
-use Rattle.circuit.proofs.Lists.{clash}
+use Rattle.layout.specs.declared.node.Position.{Position}
+use Rattle.layout.specs.Words.{used, registered}
+use Rattle.layout.specs.Tree.{Leaf, inputLeaf, Tree, leaf, branch, tree, same}
+use Rattle.layout.proofs.Lists.{clash}
 use Rattle.lowering.proofs.Shape.{Expr, leafE, opE, Shape, lf, op, shape, Look, Unf, sub}
 use Rattle.lowering.proofs.Steps.{Move, Kept}
 use Rattle.lowering.proofs.Unfold.{one-tree}

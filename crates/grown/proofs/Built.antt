@@ -7,16 +7,16 @@ use mathlib.Core.Bool.{true, false}
 use mathlib.Core.Option.{none}
 use mathlib.Core.List.{List}
 use native.Mathlib.Omega.{arith}
-use Rattle.field.specs.Base.{p}
-use Rattle.circuit.specs.declared.node.Expression.{Expression}
-use Rattle.circuit.specs.declared.node.Node.{Node}
-use Rattle.circuit.specs.Words.{used, limit, nodeAt, expressionAt, registered, made}
-use Rattle.circuit.specs.NotCircuit.{badExpression, notCircuit}
-use Rattle.circuit.specs.Tree.{Tree, treeOver, unfolded, tree, treeOf}
-use Rattle.circuit.proofs.Tests.{last-or}
+use Rattle.arithmetic.specs.Base.{p}
+use Rattle.layout.specs.declared.node.Expression.{Expression}
+use Rattle.layout.specs.declared.node.Node.{Node}
+use Rattle.layout.specs.Words.{used, limit, nodeAt, expressionAt, registered, made}
+use Rattle.layout.specs.NotCircuit.{badExpression, notCircuit}
+use Rattle.layout.specs.Tree.{Tree, treeOver, unfolded, tree, treeOf}
+use Rattle.layout.proofs.Tests.{last-or}
 use Rattle.circuit.proofs.Places.{made-here}
-use Rattle.circuit.proofs.Valid.{valid-operands, valid-ends}
-use Rattle.circuit.proofs.Trees.{over-same, levels-enough, tree-fixed}
+use Rattle.layout.proofs.Valid.{valid-operands, valid-ends}
+use Rattle.layout.proofs.Trees.{over-same, levels-enough, tree-fixed}
 use Rattle.building.specs.Building.{Built, built}
 use Rattle.grown.specs.Results as results
 use Rattle.grown.specs.Results.{alike, Unique}

@@ -4,7 +4,7 @@ use Prim.Native.Nat.{ℕ}
 use mathlib.Core.Path.{_≡_, sym, ap, subst}
 use mathlib.Core.List.{List}
 use lib.ListN.{take}
-use Rattle.circuit.specs.Outcomes.{Outcome}
+use Rattle.layout.specs.Outcomes.{Outcome}
 use Rattle.lowering.specs.declared.Lowered.the-variants.{Counts}
 use Rattle.lowering.specs.Lowering.{Lowering}
 use Rattle.lowering.specs.Calls.{lowerCall, returned}

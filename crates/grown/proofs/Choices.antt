@@ -8,9 +8,9 @@ use native.Mathlib.Decide.{decLt}
 use lib.ListN.{length, getD, List·getD-eq-default}
 use lib.Seq.{ext-getD}
 use borrow.Author.Tests.{lt-ltb, le-ltb}
-use Rattle.field.specs.Base.{p}
-use Rattle.field.specs.Extension.{Canonical}
-use Rattle.circuit.specs.Lists.{In}
+use Rattle.arithmetic.specs.Base.{p}
+use Rattle.arithmetic.specs.Extension.{Canonical}
+use Rattle.layout.specs.Lists.{In}
 use Rattle.reading.specs.Readings.{Assignment}
 use Rattle.lowering.specs.Demand.{Cells, ButNew}
 use Rattle.lowering.proofs.Assignments.{same-cells}

@@ -8,12 +8,12 @@ use native.Mathlib.Omega.{arith}
 use lib.ListN.{length, getD, set, length-set}
 use lib.Seq.{getD-set-other}
 use lib.Dec.{ltb, eqb}
-use Rattle.circuit.specs.declared.node.Expression.{Expression}
-use Rattle.circuit.specs.declared.node.Expression.the-variants.{Base, Extension, Challenge, Operation, Input}
-use Rattle.circuit.specs.Lists.{if_then_else_, upTo, any, each}
-use Rattle.circuit.specs.Words.{rowKind, used, limit, offset, word, nodeAt, expressionAt, registered}
-use Rattle.circuit.specs.NotCircuit.{badRow, badExpression, badNode, eitherOperand, goesOn, cyclic, badHeader, notCircuit}
-use Rattle.circuit.specs.Tree.{treeOver, unfolded, tree}
+use Rattle.layout.specs.declared.node.Expression.{Expression}
+use Rattle.layout.specs.declared.node.Expression.the-variants.{Base, Extension, Challenge, Operation, Input}
+use Rattle.layout.specs.Lists.{if_then_else_, upTo, any, each}
+use Rattle.layout.specs.Words.{rowKind, used, limit, offset, word, nodeAt, expressionAt, registered}
+use Rattle.layout.specs.NotCircuit.{badRow, badExpression, badNode, eitherOperand, goesOn, cyclic, badHeader, notCircuit}
+use Rattle.layout.specs.Tree.{treeOver, unfolded, tree}
 use Rattle.walking.specs.Paths.{paths}
 use Rattle.walking.specs.Calls.{counted}
 use Rattle.grown.specs.Results.{alike, Unique}

@@ -7,12 +7,12 @@ use mathlib.Core.Bool.{Bool, true, false}
 use mathlib.Core.Option.{some}
 use mathlib.Core.List.{List}
 use native.Mathlib.Omega.{arith}
-use Rattle.field.specs.Base.{minusOne}
-use Rattle.circuit.specs.declared.node.Position.{Position}
-use Rattle.circuit.specs.declared.node.Op.the-variants.{Add, Multiply}
-use Rattle.circuit.specs.Words.{used, registered}
-use Rattle.circuit.specs.Tree.{Leaf, baseLeaf, inputLeaf}
-use Rattle.circuit.proofs.Lists.{clash}
+use Rattle.arithmetic.specs.Base.{minusOne}
+use Rattle.layout.specs.declared.node.Position.{Position}
+use Rattle.layout.specs.declared.node.Op.the-variants.{Add, Multiply}
+use Rattle.layout.specs.Words.{used, registered}
+use Rattle.layout.specs.Tree.{Leaf, baseLeaf, inputLeaf}
+use Rattle.layout.proofs.Lists.{clash}
 use Rattle.lowering.specs.Lowering.{Lowering}
 use Rattle.lowering.proofs.Shape.{leafE, opE, Shape, Unf}
 use Rattle.lowering.proofs.Steps.{Moved, Minus, Gap, sum, swapped, Below, left, right}

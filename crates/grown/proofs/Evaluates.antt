@@ -7,16 +7,16 @@ use mathlib.Core.List.{List, [], _∷_, _++_}
 use lib.ListN.{length}
 use lib.Seq.{sets, length-sets}
 use borrow.Author.Tests.{leb-false, lt-leb}
-use Rattle.field.specs.Base.{p}
-use Rattle.field.specs.Extension.{triple}
-use Rattle.circuit.specs.declared.node.Expression.{Expression}
-use Rattle.circuit.specs.declared.node.Expression.the-variants.{Base, Extension, Challenge, Operation, Input}
-use Rattle.circuit.specs.Lists.{In}
-use Rattle.circuit.specs.Words.{used, expressionAt}
-use Rattle.circuit.specs.NotCircuit.{badWord, notCircuit, badId}
-use Rattle.circuit.specs.Tree.{tree}
-use Rattle.circuit.specs.Answers.{accepted}
-use Rattle.circuit.proofs.Refusals.{refusal-none, refusal-next, reading-accepted, no-bad-id, bad-id-next}
+use Rattle.arithmetic.specs.Base.{p}
+use Rattle.arithmetic.specs.Extension.{triple}
+use Rattle.layout.specs.declared.node.Expression.{Expression}
+use Rattle.layout.specs.declared.node.Expression.the-variants.{Base, Extension, Challenge, Operation, Input}
+use Rattle.layout.specs.Lists.{In}
+use Rattle.layout.specs.Words.{used, expressionAt}
+use Rattle.layout.specs.NotCircuit.{badWord, notCircuit, badId}
+use Rattle.layout.specs.Tree.{tree}
+use Rattle.layout.specs.Answers.{accepted}
+use Rattle.layout.proofs.Refusals.{refusal-none, refusal-next, reading-accepted, no-bad-id, bad-id-next}
 use Rattle.walking.specs.Paths.{walk}
 use Rattle.paths.proofs.Below.{walks-one, walks-below}
 use Rattle.reading.specs.Readings.{value}

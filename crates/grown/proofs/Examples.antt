@@ -6,16 +6,16 @@ use mathlib.Core.List.{[], _∷_}
 use native.Mathlib.Omega.{arith}
 use lib.ListN.{replicate}
 use lib.Seq.{sets}
-use Rattle.field.specs.Extension.{lift}
-use Rattle.circuit.specs.declared.node.RowKind.the-variants.{Single}
-use Rattle.circuit.specs.declared.node.Position.the-variants.{Main, Aux}
-use Rattle.circuit.specs.declared.node.Op.the-variants.{Multiply}
-use Rattle.circuit.specs.Lists.{In}
-use Rattle.circuit.specs.Words.{expressionAt}
-use Rattle.circuit.specs.Answers.{accepted}
-use Rattle.circuit.specs.Calls.{startCall}
+use Rattle.arithmetic.specs.Extension.{lift}
+use Rattle.layout.specs.declared.node.RowKind.the-variants.{Single}
+use Rattle.layout.specs.declared.node.Position.the-variants.{Main, Aux}
+use Rattle.layout.specs.declared.node.Op.the-variants.{Multiply}
+use Rattle.layout.specs.Lists.{In}
+use Rattle.layout.specs.Words.{expressionAt}
+use Rattle.layout.specs.Answers.{accepted}
+use Rattle.layout.specs.Calls.{startCall}
 use Rattle.building.specs.Calls.{inputCall, operationCall}
-use Rattle.circuit.proofs.Tests.{any-at}
+use Rattle.layout.proofs.Tests.{any-at}
 use Rattle.reading.specs.Refusals.{readsBeyond}
 use Rattle.reading.specs.Calls.{evaluateCall}
 use Rattle.lowering.specs.Calls.{lowerCall}

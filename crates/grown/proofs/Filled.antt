@@ -6,15 +6,15 @@ use mathlib.Core.Bool.{false}
 use mathlib.Core.List.{List, [], _∷_, _++_, map}
 use native.Mathlib.Omega.{arith}
 use lib.ListN.{length}
-use Rattle.field.specs.declared.extension.Triple.{Triple}
-use Rattle.field.specs.Base.{p}
-use Rattle.field.specs.Extension.{lift}
-use Rattle.circuit.specs.Lists.{In}
-use Rattle.circuit.specs.Words.{used}
-use Rattle.circuit.specs.Tree.{tree}
-use Rattle.circuit.specs.NotCircuit.{notCircuit}
-use Rattle.circuit.specs.Outcomes.{Outcome}
-use Rattle.circuit.specs.Answers.{accepted}
+use Rattle.arithmetic.specs.declared.Triple.{Triple}
+use Rattle.arithmetic.specs.Base.{p}
+use Rattle.arithmetic.specs.Extension.{lift}
+use Rattle.layout.specs.Lists.{In}
+use Rattle.layout.specs.Words.{used}
+use Rattle.layout.specs.Tree.{tree}
+use Rattle.layout.specs.NotCircuit.{notCircuit}
+use Rattle.layout.specs.Outcomes.{Outcome}
+use Rattle.layout.specs.Answers.{accepted}
 use Rattle.reading.specs.Readings.{Assignment, value}
 use Rattle.reading.specs.Calls.{assigned, evaluateCall}
 use Rattle.lowering.specs.Lowering.{Lowering}

@@ -5,13 +5,13 @@ use mathlib.Core.Bool.{Bool, true, false, _&&_}
 use mathlib.Core.Option.{Option, none, some}
 use mathlib.Core.List.{List}
 use native.Mathlib.Omega.{arith}
-use Rattle.circuit.specs.declared.node.Expression.{Expression}
-use Rattle.circuit.specs.declared.node.Expression.the-variants.{Base, Extension, Challenge, Operation, Input}
-use Rattle.circuit.specs.Words.{used, limit, registered, made}
-use Rattle.circuit.specs.NotCircuit.{badExpression, notCircuit}
-use Rattle.circuit.specs.Tree.{Tree, leaf, baseLeaf, treeOver, tree, treeOf, same}
-use Rattle.circuit.proofs.Tests.{or-false}
-use Rattle.circuit.proofs.Lists.{clash, and-true, Found, first-found}
+use Rattle.layout.specs.declared.node.Expression.{Expression}
+use Rattle.layout.specs.declared.node.Expression.the-variants.{Base, Extension, Challenge, Operation, Input}
+use Rattle.layout.specs.Words.{used, limit, registered, made}
+use Rattle.layout.specs.NotCircuit.{badExpression, notCircuit}
+use Rattle.layout.specs.Tree.{Tree, leaf, baseLeaf, treeOver, tree, treeOf, same}
+use Rattle.layout.proofs.Tests.{or-false}
+use Rattle.layout.proofs.Lists.{clash, and-true, Found, first-found}
 use Rattle.classes.proofs.Shapes.{same-refl}
 use Rattle.building.specs.Building.{Built, built, find, orElse, findOrMake, full}
 use Rattle.grown.specs.Results as results

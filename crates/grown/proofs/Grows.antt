@@ -8,22 +8,22 @@ use lib.ListN.{length, set, length-set}
 use lib.Seq.{getD-set-same, getD-set-other}
 use lib.Dec.{ltb, leb, eqb}
 use borrow.Author.Tests.{ltb-false, leb-false, le-ltb}
-use Rattle.field.specs.declared.extension.Triple.{Triple}
-use Rattle.field.specs.Base.{p}
-use Rattle.field.specs.Extension.{Canonical}
-use Rattle.circuit.specs.declared.node.RowKind.{RowKind}
-use Rattle.circuit.specs.declared.node.RowKind.the-variants.{Single, Dual}
-use Rattle.circuit.specs.declared.node.Position.{Position}
-use Rattle.circuit.specs.declared.node.Op.{Op}
-use Rattle.circuit.specs.declared.node.Expression.the-variants.{Base, Challenge, Input}
-use Rattle.circuit.specs.Lists.{any, upTo}
-use Rattle.circuit.specs.Words.{rowWord, rowKind, used, limit, registered, column, constant}
-use Rattle.circuit.specs.NotCircuit.{badRow, badIndex, badWord, badWords, badExpression, badHeader, cyclic, notCircuit, badId}
-use Rattle.circuit.specs.Outcomes.{refusal, outcome}
-use Rattle.circuit.specs.Calls.{startCall}
-use Rattle.circuit.specs.Tree.{Tree, tree, same}
-use Rattle.circuit.proofs.Lists.{clash}
-use Rattle.circuit.proofs.Tests.{neither, or-false}
+use Rattle.arithmetic.specs.declared.Triple.{Triple}
+use Rattle.arithmetic.specs.Base.{p}
+use Rattle.arithmetic.specs.Extension.{Canonical}
+use Rattle.layout.specs.declared.node.RowKind.{RowKind}
+use Rattle.layout.specs.declared.node.RowKind.the-variants.{Single, Dual}
+use Rattle.layout.specs.declared.node.Position.{Position}
+use Rattle.layout.specs.declared.node.Op.{Op}
+use Rattle.layout.specs.declared.node.Expression.the-variants.{Base, Challenge, Input}
+use Rattle.layout.specs.Lists.{any, upTo}
+use Rattle.layout.specs.Words.{rowWord, rowKind, used, limit, registered, column, constant}
+use Rattle.layout.specs.NotCircuit.{badRow, badIndex, badWord, badWords, badExpression, badHeader, cyclic, notCircuit, badId}
+use Rattle.layout.specs.Outcomes.{refusal, outcome}
+use Rattle.layout.specs.Calls.{startCall}
+use Rattle.layout.specs.Tree.{Tree, tree, same}
+use Rattle.layout.proofs.Lists.{clash}
+use Rattle.layout.proofs.Tests.{neither, or-false}
 use Rattle.building.specs.Building.{Built, findOrMake, operate, negated, subtracted, summed, summedFrom, full}
 use Rattle.building.specs.Calls.{building, inputCall, challengeCall, baseCall, extensionCall, operationCall, subtractCall, negateCall, sumCall}
 use Rattle.build.proofs.Stepping.{constant-good}

@@ -6,9 +6,9 @@ use mathlib.Core.Bool.{Bool, true, false}
 use mathlib.Core.List.{List, []}
 use native.Mathlib.Omega.{arith}
 use lib.ListN.{length}
-use Rattle.circuit.specs.Lists.{if_then_else_}
-use Rattle.circuit.specs.Words.{used, limit, registered}
-use Rattle.circuit.specs.Outcomes.{refusal}
+use Rattle.layout.specs.Lists.{if_then_else_}
+use Rattle.layout.specs.Words.{used, limit, registered}
+use Rattle.layout.specs.Outcomes.{refusal}
 use Rattle.lowering.specs.Lowering.{Lowering, M, tooHigh, loop, lowered}
 use Rattle.lowering.specs.Refusals.{badColumns}
 use Rattle.lowering.specs.Calls.{testsThen, lowerCall, returned}

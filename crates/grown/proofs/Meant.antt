@@ -11,17 +11,17 @@ use lib.ListN.{length, getD}
 use lib.Seq.{sets}
 use lib.Dec.{eqb}
 use borrow.Author.Tests.{leb-false, eqb-true, not-false}
-use Rattle.field.specs.declared.extension.Triple.{Triple}
-use Rattle.field.specs.Extension.{lift}
-use Rattle.circuit.specs.declared.node.Position.{Position}
-use Rattle.circuit.specs.declared.node.Position.the-variants.{Main, Aux, NextMain, NextAux}
-use Rattle.circuit.specs.declared.node.Expression.{Expression}
-use Rattle.circuit.specs.declared.node.Expression.the-variants.{Base, Extension, Challenge, Operation, Input}
-use Rattle.circuit.specs.Words.{rowKind, used, expressionAt, isNext, column}
-use Rattle.circuit.specs.Tree.{inputLeaf, tree}
-use Rattle.circuit.specs.NotCircuit.{badIndex, notCircuit}
-use Rattle.circuit.specs.Answers.{accepted}
-use Rattle.circuit.proofs.Tests.{neither, either}
+use Rattle.arithmetic.specs.declared.Triple.{Triple}
+use Rattle.arithmetic.specs.Extension.{lift}
+use Rattle.layout.specs.declared.node.Position.{Position}
+use Rattle.layout.specs.declared.node.Position.the-variants.{Main, Aux, NextMain, NextAux}
+use Rattle.layout.specs.declared.node.Expression.{Expression}
+use Rattle.layout.specs.declared.node.Expression.the-variants.{Base, Extension, Challenge, Operation, Input}
+use Rattle.layout.specs.Words.{rowKind, used, expressionAt, isNext, column}
+use Rattle.layout.specs.Tree.{inputLeaf, tree}
+use Rattle.layout.specs.NotCircuit.{badIndex, notCircuit}
+use Rattle.layout.specs.Answers.{accepted}
+use Rattle.layout.proofs.Tests.{neither, either}
 use Rattle.reading.specs.Readings.{Assignment, inputValue, value}
 use Rattle.reading.specs.Refusals.{columnsLent, readsBeyond}
 use Rattle.reading.specs.Calls.{tripleAt, nextRow, assigned}

@@ -5,21 +5,21 @@ use mathlib.Core.Bool.{Bool, true, false}
 use mathlib.Core.Option.{Option, none, some}
 use mathlib.Core.List.{List}
 use borrow.Author.Tests.{eqb-true}
-use Rattle.field.specs.declared.extension.Triple.{Triple}
-use Rattle.field.specs.Base.{p}
-use Rattle.field.specs.Extension.{lift, unlifts}
-use Rattle.field.proofs.Exactly.{same-exactly}
-use Rattle.circuit.specs.declared.node.Op.{Op}
-use Rattle.circuit.specs.declared.node.Op.the-variants.{Add, Multiply}
-use Rattle.circuit.specs.declared.node.Expression.{Expression}
-use Rattle.circuit.specs.declared.node.Expression.the-variants.{Base, Extension, Challenge, Operation, Input}
-use Rattle.circuit.specs.Lists.{if_then_else_}
-use Rattle.circuit.specs.Words.{used, expressionAt, constantOf, constant, constantIs, isConstant, apply}
-use Rattle.circuit.specs.NotCircuit.{notCircuit}
-use Rattle.circuit.specs.Tree.{Tree, treeOver, tree, treeOf, same}
-use Rattle.circuit.proofs.Tests.{or-false}
-use Rattle.circuit.proofs.Lists.{clash}
-use Rattle.circuit.proofs.Trees.{tree-fixed}
+use Rattle.arithmetic.specs.declared.Triple.{Triple}
+use Rattle.arithmetic.specs.Base.{p}
+use Rattle.arithmetic.specs.Extension.{lift, unlifts}
+use Rattle.arithmetic.proofs.Exactly.{same-exactly}
+use Rattle.layout.specs.declared.node.Op.{Op}
+use Rattle.layout.specs.declared.node.Op.the-variants.{Add, Multiply}
+use Rattle.layout.specs.declared.node.Expression.{Expression}
+use Rattle.layout.specs.declared.node.Expression.the-variants.{Base, Extension, Challenge, Operation, Input}
+use Rattle.layout.specs.Lists.{if_then_else_}
+use Rattle.layout.specs.Words.{used, expressionAt, constantOf, constant, constantIs, isConstant, apply}
+use Rattle.layout.specs.NotCircuit.{notCircuit}
+use Rattle.layout.specs.Tree.{Tree, treeOver, tree, treeOf, same}
+use Rattle.layout.proofs.Tests.{or-false}
+use Rattle.layout.proofs.Lists.{clash}
+use Rattle.layout.proofs.Trees.{tree-fixed}
 use Rattle.building.specs.Building.{Built, built, find, orElse, findOrMake, eitherOrder, foldedOr, folding, operate, full}
 use Rattle.grown.specs.Results as results
 use Rattle.grown.specs.Results.{constantTree, Operated, alike}

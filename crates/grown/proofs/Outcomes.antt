@@ -1,6 +1,6 @@
 -- Each public call's contract can be met in one way only. Assumes nothing.
 use mathlib.Core.Path.{sym, ap, _∙_}
-use Rattle.circuit.proofs.Unique.{start-once, read-once, used-once, free-once}
+use Rattle.layout.proofs.Unique.{start-once, read-once, used-once, free-once}
 use Rattle.classes.proofs.Unique.{equal-once}
 use Rattle.building.specs.Calls.{inputCall, challengeCall, baseCall, zeroCall, oneCall, minusOneCall, extensionCall, operationCall, subtractCall, negateCall, sumCall}
 use Rattle.building.proofs.Once.{told-once}

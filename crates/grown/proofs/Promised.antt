@@ -8,14 +8,14 @@ use mathlib.Core.List.{List}
 use native.Mathlib.Omega.{arith}
 use lib.ListN.{length, getD}
 use borrow.Author.Tests.{le-ltb}
-use Rattle.field.specs.Base.{minusOne}
-use Rattle.circuit.specs.declared.node.Position.{Position}
-use Rattle.circuit.specs.declared.node.Position.the-variants.{Main, Aux}
-use Rattle.circuit.specs.declared.node.Expression.{Expression}
-use Rattle.circuit.specs.declared.node.Op.the-variants.{Add, Multiply}
-use Rattle.circuit.specs.declared.node.Expression.the-variants.{Base, Operation, Input}
-use Rattle.circuit.specs.Words.{used, expressionAt}
-use Rattle.circuit.specs.Tree.{tree}
+use Rattle.arithmetic.specs.Base.{minusOne}
+use Rattle.layout.specs.declared.node.Position.{Position}
+use Rattle.layout.specs.declared.node.Position.the-variants.{Main, Aux}
+use Rattle.layout.specs.declared.node.Expression.{Expression}
+use Rattle.layout.specs.declared.node.Op.the-variants.{Add, Multiply}
+use Rattle.layout.specs.declared.node.Expression.the-variants.{Base, Operation, Input}
+use Rattle.layout.specs.Words.{used, expressionAt}
+use Rattle.layout.specs.Tree.{tree}
 use Rattle.reading.specs.Readings.{Assignment, degree⁺, above, value}
 use Rattle.lowering.specs.Lowering.{Lowering, tooHigh}
 use Rattle.lowering.specs.Calls.{lowerCall, returned}

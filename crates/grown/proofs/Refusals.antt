@@ -4,8 +4,8 @@ use mathlib.Core.Path.{_≡_, refl}
 use mathlib.Core.Logic.{_≢_}
 use mathlib.Core.Bool.{Bool}
 use mathlib.Core.List.{List}
-use Rattle.circuit.specs.Outcomes.{refusal, numbered, outcome}
-use Rattle.circuit.specs.Calls.{reading, startCall, readCall, usedCall, freeCall}
+use Rattle.layout.specs.Outcomes.{refusal, numbered, outcome}
+use Rattle.layout.specs.Calls.{reading, startCall, readCall, usedCall, freeCall}
 use Rattle.classes.specs.Classes.{equalCall}
 use Rattle.building.specs.Calls.{building, inputCall, challengeCall, baseCall, zeroCall, oneCall, minusOneCall, extensionCall, operationCall, subtractCall, negateCall, sumCall}
 use Rattle.walking.specs.Calls.{walkCall, countCall, countsCall}

@@ -6,12 +6,12 @@ use mathlib.Core.Option.{some}
 use mathlib.Core.List.{List, [], _++_}
 use native.Mathlib.Omega.{arith}
 use lib.ListN.{length}
-use Rattle.circuit.specs.declared.node.Position.{Position}
-use Rattle.circuit.specs.declared.node.Position.the-variants.{Main, Aux}
-use Rattle.circuit.specs.Lists.{if_then_else_, In}
-use Rattle.circuit.specs.Words.{rowKind, used}
-use Rattle.circuit.specs.Tree.{Leaf, inputLeaf}
-use Rattle.circuit.specs.Outcomes.{refusal}
+use Rattle.layout.specs.declared.node.Position.{Position}
+use Rattle.layout.specs.declared.node.Position.the-variants.{Main, Aux}
+use Rattle.layout.specs.Lists.{if_then_else_, In}
+use Rattle.layout.specs.Words.{rowKind, used}
+use Rattle.layout.specs.Tree.{Leaf, inputLeaf}
+use Rattle.layout.specs.Outcomes.{refusal}
 use Rattle.lowering.specs.Lowering.{Lowering, M, tooHigh, loop, lowered}
 use Rattle.lowering.specs.Calls.{testsThen, lowerCall, returned}
 use Rattle.lowering.proofs.Shape.{leafE, Look}

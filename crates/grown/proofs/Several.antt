@@ -6,15 +6,15 @@ use mathlib.Core.List.{List, [], _∷_, map}
 use native.Mathlib.Omega.{arith}
 use lib.Dec.{leb}
 use borrow.Author.Tests.{lt-leb, leb-false}
-use Rattle.field.specs.Base.{p, minusOne}
-use Rattle.circuit.specs.declared.node.Op.{Op}
-use Rattle.circuit.specs.declared.node.Op.the-variants.{Add, Multiply}
-use Rattle.circuit.specs.declared.node.Expression.the-variants.{Base}
-use Rattle.circuit.specs.Lists.{any}
-use Rattle.circuit.specs.Words.{used}
-use Rattle.circuit.specs.NotCircuit.{badExpression, notCircuit, badId}
-use Rattle.circuit.specs.Tree.{Leaf, Tree, leaf, branch, baseLeaf, tree, same}
-use Rattle.circuit.proofs.Tests.{neither, or-false}
+use Rattle.arithmetic.specs.Base.{p, minusOne}
+use Rattle.layout.specs.declared.node.Op.{Op}
+use Rattle.layout.specs.declared.node.Op.the-variants.{Add, Multiply}
+use Rattle.layout.specs.declared.node.Expression.the-variants.{Base}
+use Rattle.layout.specs.Lists.{any}
+use Rattle.layout.specs.Words.{used}
+use Rattle.layout.specs.NotCircuit.{badExpression, notCircuit, badId}
+use Rattle.layout.specs.Tree.{Leaf, Tree, leaf, branch, baseLeaf, tree, same}
+use Rattle.layout.proofs.Tests.{neither, or-false}
 use Rattle.classes.proofs.Shapes.{shape, same-shape}
 use Rattle.building.specs.Building.{Built, findOrMake, operate, negated, subtracted, summedFrom, full}
 use Rattle.grown.specs.Results as results

@@ -7,9 +7,9 @@ use native.Mathlib.Omega.{arith}
 use native.Mathlib.Decide.{decLt}
 use lib.ListN.{length, getD, set, drop, length-set}
 use lib.Seq.{sets, length-sets, getD-set-same, getD-set-other, drop-set-lt}
-use Rattle.field.specs.declared.extension.Triple.{Triple}
-use Rattle.field.specs.Extension.{triple}
-use Rattle.circuit.specs.Lists.{In}
+use Rattle.arithmetic.specs.declared.Triple.{Triple}
+use Rattle.arithmetic.specs.Extension.{triple}
+use Rattle.layout.specs.Lists.{In}
 use Rattle.reading.specs.Calls.{tripleAt, nextRow}
 use Rattle.grown.specs.Promise.{row}
 use Rattle.grown.proofs.Choices.{row-old, row-at}

@@ -8,14 +8,14 @@ use mathlib.Core.Option.{some}
 use mathlib.Core.List.{List}
 use native.Mathlib.Omega.{arith}
 use lib.ListN.{length}
-use Rattle.circuit.specs.Lists.{if_then_else_}
-use Rattle.circuit.specs.declared.node.Position.{Position}
-use Rattle.circuit.specs.declared.node.Position.the-variants.{Main, Aux}
-use Rattle.circuit.specs.Words.{used, limit, registered, column, isMain, isNext}
-use Rattle.circuit.specs.NotCircuit.{notCircuit}
-use Rattle.circuit.specs.Tree.{inputLeaf, tree}
-use Rattle.circuit.proofs.Lists.{clash}
-use Rattle.circuit.proofs.Tests.{last-or}
+use Rattle.layout.specs.Lists.{if_then_else_}
+use Rattle.layout.specs.declared.node.Position.{Position}
+use Rattle.layout.specs.declared.node.Position.the-variants.{Main, Aux}
+use Rattle.layout.specs.Words.{used, limit, registered, column, isMain, isNext}
+use Rattle.layout.specs.NotCircuit.{notCircuit}
+use Rattle.layout.specs.Tree.{inputLeaf, tree}
+use Rattle.layout.proofs.Lists.{clash}
+use Rattle.layout.proofs.Tests.{last-or}
 use Rattle.reading.specs.Readings.{isBase}
 use Rattle.lowering.specs.Lowering.{Lowering, substituted}
 use Rattle.lowering.proofs.Shape.{leafE, Shape, lf, shape, Unf, deg, baseS}

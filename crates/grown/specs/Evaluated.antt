@@ -6,14 +6,14 @@ use mathlib.Core.List.{List, _++_, map}
 use lib.ListN.{length}
 use lib.Seq.{sets}
 use lib.Dec.{eqb}
-use Rattle.field.specs.declared.extension.Triple.{Triple}
-use Rattle.field.specs.Base.{p}
-use Rattle.field.specs.Extension.{lift}
-use Rattle.circuit.specs.Lists.{any, In}
-use Rattle.circuit.specs.Words.{rowKind, used, expressionAt}
-use Rattle.circuit.specs.NotCircuit.{badWord}
-use Rattle.circuit.specs.Outcomes.{Outcome}
-use Rattle.circuit.specs.Answers.{accepted}
+use Rattle.arithmetic.specs.declared.Triple.{Triple}
+use Rattle.arithmetic.specs.Base.{p}
+use Rattle.arithmetic.specs.Extension.{lift}
+use Rattle.layout.specs.Lists.{any, In}
+use Rattle.layout.specs.Words.{rowKind, used, expressionAt}
+use Rattle.layout.specs.NotCircuit.{badWord}
+use Rattle.layout.specs.Outcomes.{Outcome}
+use Rattle.layout.specs.Answers.{accepted}
 use Rattle.reading.specs.Refusals.{readsBeyond}
 use Rattle.reading.specs.Calls.{evaluateCall}
 use Rattle.lowering.specs.Lowering.{Lowering}

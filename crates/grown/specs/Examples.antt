@@ -4,13 +4,13 @@ use mathlib.Core.List.{List, [], _∷_}
 use lib.ListN.{replicate}
 use lib.Seq.{sets}
 use lib.Dec.{T}
-use Rattle.field.specs.declared.extension.Triple.{Triple}
-use Rattle.circuit.specs.declared.node.RowKind.the-variants.{Single}
-use Rattle.circuit.specs.declared.node.Position.the-variants.{Main, Aux}
-use Rattle.circuit.specs.declared.node.Op.the-variants.{Multiply}
-use Rattle.circuit.specs.Lists.{agree}
-use Rattle.circuit.specs.Outcomes.{Outcome}
-use Rattle.circuit.specs.Calls.{startCall}
+use Rattle.arithmetic.specs.declared.Triple.{Triple}
+use Rattle.layout.specs.declared.node.RowKind.the-variants.{Single}
+use Rattle.layout.specs.declared.node.Position.the-variants.{Main, Aux}
+use Rattle.layout.specs.declared.node.Op.the-variants.{Multiply}
+use Rattle.layout.specs.Lists.{agree}
+use Rattle.layout.specs.Outcomes.{Outcome}
+use Rattle.layout.specs.Calls.{startCall}
 use Rattle.building.specs.Calls.{inputCall, operationCall}
 use Rattle.reading.specs.Calls.{evaluateCall}
 use Rattle.lowering.specs.Lowering.{Lowering}

@@ -4,9 +4,9 @@ use Prim.Native.Nat.{ℕ, _<_}
 use mathlib.Core.Path.{_≡_}
 use mathlib.Core.Bool.{true, false}
 use mathlib.Core.List.{List}
-use Rattle.circuit.specs.Words.{used, registered}
-use Rattle.circuit.specs.NotCircuit.{notCircuit}
-use Rattle.circuit.specs.Tree.{Tree, tree, same}
+use Rattle.layout.specs.Words.{used, registered}
+use Rattle.layout.specs.NotCircuit.{notCircuit}
+use Rattle.layout.specs.Tree.{Tree, tree, same}
 use Rattle.grown.specs.Results.{Unique}
 
 pub record Invariants (m : List ℕ) : Type 0 where

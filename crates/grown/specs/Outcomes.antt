@@ -5,17 +5,17 @@ use mathlib.Core.Path.{_≡_}
 use mathlib.Core.Logic.{_≢_}
 use mathlib.Core.Bool.{Bool, not}
 use mathlib.Core.List.{List}
-use Rattle.field.specs.declared.extension.Triple.{Triple}
-use Rattle.circuit.specs.declared.node.RowKind.{RowKind}
-use Rattle.circuit.specs.declared.node.Position.{Position}
-use Rattle.circuit.specs.declared.node.Op.{Op}
-use Rattle.circuit.specs.declared.calls.Started.the-variants as start-answer
-use Rattle.circuit.specs.declared.calls.NodeRead.the-variants as node-answer
-use Rattle.circuit.specs.declared.calls.Counted.the-variants as number-answer
-use Rattle.circuit.specs.NotCircuit.{notCircuit}
-use Rattle.circuit.specs.Outcomes.{Outcome}
-use Rattle.circuit.specs.Answers.{toldStart, toldNode, toldCount}
-use Rattle.circuit.specs.Calls.{startCall, readCall, usedCall, freeCall}
+use Rattle.arithmetic.specs.declared.Triple.{Triple}
+use Rattle.layout.specs.declared.node.RowKind.{RowKind}
+use Rattle.layout.specs.declared.node.Position.{Position}
+use Rattle.layout.specs.declared.node.Op.{Op}
+use Rattle.layout.specs.declared.answer.Started.the-variants as start-answer
+use Rattle.layout.specs.declared.answer.NodeRead.the-variants as node-answer
+use Rattle.layout.specs.declared.answer.Counted.the-variants as number-answer
+use Rattle.layout.specs.NotCircuit.{notCircuit}
+use Rattle.layout.specs.Outcomes.{Outcome}
+use Rattle.layout.specs.Answers.{toldStart, toldNode, toldCount}
+use Rattle.layout.specs.Calls.{startCall, readCall, usedCall, freeCall}
 use Rattle.classes.specs.declared.Equal.the-variants as equal-answer
 use Rattle.classes.specs.Classes.{equalCall}
 use Rattle.classes.specs.Told.{toldEqual}

@@ -7,15 +7,15 @@ use mathlib.Core.Bool.{true, false}
 use mathlib.Core.List.{List, [], _++_}
 use lib.ListN.{length, getD}
 use lib.Dec.{ltb}
-use Rattle.field.specs.declared.extension.Triple.{Triple}
-use Rattle.field.specs.Base.{p, minusOne}
-use Rattle.field.specs.Extension.{Canonical}
-use Rattle.circuit.specs.declared.node.Position.{Position}
-use Rattle.circuit.specs.declared.node.Position.the-variants.{Main, Aux}
-use Rattle.circuit.specs.declared.node.Op.the-variants.{Add, Multiply}
-use Rattle.circuit.specs.declared.node.Expression.the-variants.{Base, Operation, Input}
-use Rattle.circuit.specs.Lists.{if_then_else_, In}
-use Rattle.circuit.specs.Words.{used, expressionAt}
+use Rattle.arithmetic.specs.declared.Triple.{Triple}
+use Rattle.arithmetic.specs.Base.{p, minusOne}
+use Rattle.arithmetic.specs.Extension.{Canonical}
+use Rattle.layout.specs.declared.node.Position.{Position}
+use Rattle.layout.specs.declared.node.Position.the-variants.{Main, Aux}
+use Rattle.layout.specs.declared.node.Op.the-variants.{Add, Multiply}
+use Rattle.layout.specs.declared.node.Expression.the-variants.{Base, Operation, Input}
+use Rattle.layout.specs.Lists.{if_then_else_, In}
+use Rattle.layout.specs.Words.{used, expressionAt}
 use Rattle.reading.specs.Readings.{Assignment, above}
 use Rattle.lowering.specs.Lowering.{Lowering, M, tooHigh}
 use Rattle.lowering.specs.Demand.{Cells, Vanish, valuesOf}

@@ -6,13 +6,13 @@ use mathlib.Core.Logic.{_≢_}
 use mathlib.Core.Bool.{false}
 use mathlib.Core.List.{List}
 use lib.IntN.{pos}
-use Rattle.field.specs.declared.extension.Triple.{Triple}
-use Rattle.field.specs.Extension.{triple}
-use Rattle.circuit.specs.declared.node.RowKind.{RowKind}
-use Rattle.circuit.specs.declared.node.Position.{Position}
-use Rattle.circuit.specs.declared.node.Op.{Op}
-use Rattle.circuit.specs.Outcomes.{Outcome}
-use Rattle.circuit.specs.Calls.{noNode, startCall, readCall, usedCall, freeCall}
+use Rattle.arithmetic.specs.declared.Triple.{Triple}
+use Rattle.arithmetic.specs.Extension.{triple}
+use Rattle.layout.specs.declared.node.RowKind.{RowKind}
+use Rattle.layout.specs.declared.node.Position.{Position}
+use Rattle.layout.specs.declared.node.Op.{Op}
+use Rattle.layout.specs.Outcomes.{Outcome}
+use Rattle.layout.specs.Calls.{noNode, startCall, readCall, usedCall, freeCall}
 use Rattle.classes.specs.Classes.{equalCall}
 use Rattle.building.specs.Calls.{inputCall, challengeCall, baseCall, zeroCall, oneCall, minusOneCall, extensionCall, operationCall, subtractCall, negateCall, sumCall}
 use Rattle.walking.specs.Calls.{walkCall, countCall, countsCall}

@@ -5,14 +5,14 @@ use mathlib.Core.Path.{_≡_}
 use mathlib.Core.Bool.{Bool, true, false, _||_}
 use mathlib.Core.Option.{Option, none, some}
 use mathlib.Core.List.{List, [], _∷_}
-use Rattle.field.specs.declared.extension.Triple.{Triple}
-use Rattle.field.specs.Base.{minusOne}
-use Rattle.field.specs.Extension.{lift}
-use Rattle.circuit.specs.declared.node.Op.{Op}
-use Rattle.circuit.specs.declared.node.Op.the-variants.{Add, Multiply}
-use Rattle.circuit.specs.declared.node.Expression.{Expression}
-use Rattle.circuit.specs.Words.{used, registered, constant, apply}
-use Rattle.circuit.specs.Tree.{baseLeaf, extensionLeaf, challengeLeaf, inputLeaf, Tree, leaf, branch, treeOver, tree, same}
+use Rattle.arithmetic.specs.declared.Triple.{Triple}
+use Rattle.arithmetic.specs.Base.{minusOne}
+use Rattle.arithmetic.specs.Extension.{lift}
+use Rattle.layout.specs.declared.node.Op.{Op}
+use Rattle.layout.specs.declared.node.Op.the-variants.{Add, Multiply}
+use Rattle.layout.specs.declared.node.Expression.{Expression}
+use Rattle.layout.specs.Words.{used, registered, constant, apply}
+use Rattle.layout.specs.Tree.{baseLeaf, extensionLeaf, challengeLeaf, inputLeaf, Tree, leaf, branch, treeOver, tree, same}
 
 -- the constant that a tree is
 abbrev pub constantTree : Tree → Option Triple

@@ -4,15 +4,15 @@ use mathlib.Core.Path.{_≡_, sym, _∙_}
 use mathlib.Core.Bool.{Bool, true, false, _||_}
 use mathlib.Core.List.{List, [], _∷_, _++_}
 use borrow.Author.Tests.{leb-false}
-use Rattle.field.specs.declared.extension.Triple.{Triple}
-use Rattle.field.specs.Base.{p}
-use Rattle.circuit.specs.declared.node.Position.{Position}
-use Rattle.circuit.specs.declared.node.Expression.the-variants.{Base, Challenge, Input}
-use Rattle.circuit.specs.Words.{used, column, constant}
-use Rattle.circuit.specs.NotCircuit.{badRow, badIndex, badWord, badWords, badExpression, badId}
-use Rattle.circuit.specs.Outcomes.{refusal}
-use Rattle.circuit.proofs.Tests.{neither, or-false}
-use Rattle.circuit.proofs.Refusals.{refusal-here, refusal-next, bad-id-here, bad-id-next, no-bad-id}
+use Rattle.arithmetic.specs.declared.Triple.{Triple}
+use Rattle.arithmetic.specs.Base.{p}
+use Rattle.layout.specs.declared.node.Position.{Position}
+use Rattle.layout.specs.declared.node.Expression.the-variants.{Base, Challenge, Input}
+use Rattle.layout.specs.Words.{used, column, constant}
+use Rattle.layout.specs.NotCircuit.{badRow, badIndex, badWord, badWords, badExpression, badId}
+use Rattle.layout.specs.Outcomes.{refusal}
+use Rattle.layout.proofs.Tests.{neither, or-false}
+use Rattle.layout.proofs.Refusals.{refusal-here, refusal-next, bad-id-here, bad-id-next, no-bad-id}
 use Rattle.building.specs.declared.Answer.{Answer}
 use Rattle.building.specs.declared.Answer.the-variants.{Refused}
 use Rattle.building.specs.Building.{Built, full}

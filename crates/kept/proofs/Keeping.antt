@@ -8,15 +8,15 @@ use lib.ListN.{length, set, length-set, replicate, length-replicate}
 use lib.Seq.{getD-set-same, getD-set-other}
 use lib.Dec.{ltb, eqb}
 use borrow.Author.Tests.{le-ltb, ltb-false, eqb-true, eq-eqb}
-use Rattle.circuit.specs.declared.node.RowKind.{RowKind}
-use Rattle.circuit.specs.declared.node.RowKind.the-variants.{Single, Dual}
-use Rattle.circuit.specs.Lists.{if_then_else_, upTo, any, written}
-use Rattle.circuit.specs.Words.{rowWord, rowKind, used, limit}
-use Rattle.circuit.specs.NotCircuit.{badId, badHeader, cyclic, notCircuit}
-use Rattle.circuit.specs.Outcomes.{Outcome, numbered, outcome, refusal}
-use Rattle.circuit.specs.Calls.{startCall}
-use Rattle.circuit.proofs.Lists.{clash}
-use Rattle.circuit.proofs.Refusals.{refusal-here, refusal-next, refusal-none, outcome-refused, outcome-accepted}
+use Rattle.layout.specs.declared.node.RowKind.{RowKind}
+use Rattle.layout.specs.declared.node.RowKind.the-variants.{Single, Dual}
+use Rattle.layout.specs.Lists.{if_then_else_, upTo, any, written}
+use Rattle.layout.specs.Words.{rowWord, rowKind, used, limit}
+use Rattle.layout.specs.NotCircuit.{badId, badHeader, cyclic, notCircuit}
+use Rattle.layout.specs.Outcomes.{Outcome, numbered, outcome, refusal}
+use Rattle.layout.specs.Calls.{startCall}
+use Rattle.layout.proofs.Lists.{clash}
+use Rattle.layout.proofs.Refusals.{refusal-here, refusal-next, refusal-none, outcome-refused, outcome-accepted}
 use Rattle.building.specs.declared.Answer.{Answer}
 use Rattle.building.specs.Building.{negated}
 use Rattle.building.specs.Calls.{building, negateCall}

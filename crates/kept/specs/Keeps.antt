@@ -4,9 +4,9 @@ use mathlib.Core.Path.{_≡_}
 use mathlib.Core.Bool.{true, false}
 use mathlib.Core.List.{List}
 use lib.ListN.{length}
-use Rattle.circuit.specs.Words.{rowKind, used}
-use Rattle.circuit.specs.NotCircuit.{notCircuit}
-use Rattle.circuit.specs.Outcomes.{Outcome}
+use Rattle.layout.specs.Words.{rowKind, used}
+use Rattle.layout.specs.NotCircuit.{notCircuit}
+use Rattle.layout.specs.Outcomes.{Outcome}
 use Rattle.classes.specs.Numbers.{Sized}
 use Rattle.building.specs.declared.Answer.{Answer}
 use Rattle.building.specs.Told.{toldId}

@@ -6,8 +6,8 @@ use mathlib.Core.Option.{none, some}
 use mathlib.Core.List.{List, [], _∷_, _++_, append-nil}
 use native.Mathlib.Omega.{arith}
 use lib.ListN.{length, set, drop, length-append, length-drop}
-use Rattle.circuit.specs.Lists.{if_then_else_, written}
-use Rattle.circuit.specs.Tree.{tree}
+use Rattle.layout.specs.Lists.{if_then_else_, written}
+use Rattle.layout.specs.Tree.{tree}
 use Rattle.paths.proofs.Written.{written-more}
 use Rattle.reading.specs.Readings.{isBase}
 use Rattle.lowering.specs.Lowering.{Lowering, tooHigh, candidates, best, substituted}

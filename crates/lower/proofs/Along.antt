@@ -8,14 +8,14 @@ use native.Mathlib.Omega.{arith}
 use lib.ListN.{length}
 use lib.Dec.{ltb, leb}
 use borrow.Author.Tests.{le-ltb, lt-leb}
-use Rattle.circuit.specs.declared.node.Position.{Position}
-use Rattle.circuit.specs.declared.node.Position.the-variants.{Main, Aux}
-use Rattle.circuit.specs.declared.node.Expression.the-variants.{Input}
-use Rattle.circuit.specs.Lists.{if_then_else_, any}
-use Rattle.circuit.specs.Words.{used, limit, column, made}
-use Rattle.circuit.specs.NotCircuit.{notCircuit, badId}
-use Rattle.circuit.proofs.Tests.{is-false}
-use Rattle.circuit.proofs.Lists.{clash}
+use Rattle.layout.specs.declared.node.Position.{Position}
+use Rattle.layout.specs.declared.node.Position.the-variants.{Main, Aux}
+use Rattle.layout.specs.declared.node.Expression.the-variants.{Input}
+use Rattle.layout.specs.Lists.{if_then_else_, any}
+use Rattle.layout.specs.Words.{used, limit, column, made}
+use Rattle.layout.specs.NotCircuit.{notCircuit, badId}
+use Rattle.layout.proofs.Tests.{is-false}
+use Rattle.layout.proofs.Lists.{clash}
 use Rattle.paths.proofs.Below.{any-some}
 use Rattle.reading.specs.Refusals.{overDegree}
 use Rattle.lowering.specs.Lowering.{Lowering, M, tooHigh, candidates, best, substituted, loop, lowered}

@@ -8,10 +8,10 @@ use native.Mathlib.Omega.{arith}
 use lib.ListN.{length}
 use lib.Dec.{ltb}
 use borrow.Author.Tests.{ltb-false}
-use Rattle.circuit.specs.Lists.{if_then_else_}
-use Rattle.circuit.specs.Outcomes.{refusal, outcome}
-use Rattle.circuit.specs.Answers.{accepted, refused}
-use Rattle.circuit.proofs.Refusals.{refusal-none, refusal-next, outcome-accepted, outcome-refused}
+use Rattle.layout.specs.Lists.{if_then_else_}
+use Rattle.layout.specs.Outcomes.{refusal, outcome}
+use Rattle.layout.specs.Answers.{accepted, refused}
+use Rattle.layout.proofs.Refusals.{refusal-none, refusal-next, outcome-accepted, outcome-refused}
 use Rattle.paths.proofs.Written.{written-none}
 use Rattle.lowering.specs.Lowering.{Lowering, M, tooHigh}
 use Rattle.lowering.specs.Refusals.{overOccurrences}

@@ -9,12 +9,12 @@ use native.Mathlib.Nat.{add-suc, add-zero}
 use native.Mathlib.Omega.{arith}
 use lib.Dec.{ltb, eqb}
 use borrow.Author.Tests.{ltb-true, ltb-false, ne-eqb}
-use Rattle.circuit.specs.declared.node.Position.{Position}
-use Rattle.circuit.specs.Lists.{if_then_else_, upTo, In, any, keep, count}
-use Rattle.circuit.specs.Words.{used, registered}
-use Rattle.circuit.specs.Tree.{inputLeaf, Tree, leaf, branch, tree}
-use Rattle.circuit.proofs.Tests.{is-false, any-at, any-none}
-use Rattle.circuit.proofs.Lists.{and-true, and-both, clash}
+use Rattle.layout.specs.declared.node.Position.{Position}
+use Rattle.layout.specs.Lists.{if_then_else_, upTo, In, any, keep, count}
+use Rattle.layout.specs.Words.{used, registered}
+use Rattle.layout.specs.Tree.{inputLeaf, Tree, leaf, branch, tree}
+use Rattle.layout.proofs.Tests.{is-false, any-at, any-none}
+use Rattle.layout.proofs.Lists.{and-true, and-both, clash}
 use Rattle.walking.specs.Paths.{walk, walks, paths}
 use Rattle.paths.proofs.Walks.{count-append, from, paths-none, paths-more}
 use Rattle.paths.proofs.Below.{any-in, any-some, paths-in, in-paths}

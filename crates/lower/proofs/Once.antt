@@ -3,7 +3,7 @@
 use Prim.Native.Nat.{ℕ}
 use mathlib.Core.Path.{_≡_, sym, ap, ap₂}
 use mathlib.Core.Logic.{_≢_}
-use Rattle.circuit.proofs.Unique.{one-outcome, same-number, same-values, same-lent}
+use Rattle.layout.proofs.Unique.{one-outcome, same-number, same-values, same-lent}
 use Rattle.lowering.specs.declared.Lowered.{Lowered}
 use Rattle.lowering.specs.declared.Lowered.the-variants.{Counts, Refused}
 use Rattle.lowering.specs.Lowering.{Lowering}

@@ -8,11 +8,11 @@ use mathlib.Core.List.{List}
 use native.Mathlib.Omega.{arith}
 use lib.ListN.{length}
 use borrow.Author.Tests.{le-ltb}
-use Rattle.circuit.specs.declared.node.Position.{Position}
-use Rattle.circuit.specs.declared.node.Expression.the-variants.{Input}
-use Rattle.circuit.specs.Words.{used, limit, column, isMain, isNext}
-use Rattle.circuit.specs.Tree.{inputLeaf, tree}
-use Rattle.circuit.specs.NotCircuit.{notCircuit}
+use Rattle.layout.specs.declared.node.Position.{Position}
+use Rattle.layout.specs.declared.node.Expression.the-variants.{Input}
+use Rattle.layout.specs.Words.{used, limit, column, isMain, isNext}
+use Rattle.layout.specs.Tree.{inputLeaf, tree}
+use Rattle.layout.specs.NotCircuit.{notCircuit}
 use Rattle.building.specs.Building.{Built, built, findOrMake, full}
 use Rattle.reading.specs.Readings.{isBase}
 use Rattle.lower.specs.Substituting.{inputAt, Fresh, Differing, newInput, turned, Substitutable}

@@ -8,13 +8,13 @@ use native.Mathlib.Omega.{arith}
 use lib.ListN.{length}
 use lib.Dec.{ltb, leb}
 use borrow.Author.Tests.{ltb-true, ltb-false, leb-false, lt-ltb, not-true}
-use Rattle.circuit.specs.Lists.{if_then_else_, upTo, In, any, keep}
-use Rattle.circuit.specs.Words.{used, registered}
-use Rattle.circuit.specs.Tree.{tree}
-use Rattle.circuit.specs.NotCircuit.{notCircuit, badId}
+use Rattle.layout.specs.Lists.{if_then_else_, upTo, In, any, keep}
+use Rattle.layout.specs.Words.{used, registered}
+use Rattle.layout.specs.Tree.{tree}
+use Rattle.layout.specs.NotCircuit.{notCircuit, badId}
 use Rattle.circuit.specs.Rank.{at}
-use Rattle.circuit.proofs.Tests.{any-at}
-use Rattle.circuit.proofs.Lists.{and-true}
+use Rattle.layout.proofs.Tests.{any-at}
+use Rattle.layout.proofs.Lists.{and-true}
 use Rattle.walking.specs.Paths.{walks, paths}
 use Rattle.paths.specs.Counting.{over, PathCounts}
 use Rattle.paths.proofs.Below.{any-walks, root-below, paths-in, any-some}

@@ -7,10 +7,10 @@ use native.Mathlib.Omega.{arith}
 use lib.ListN.{length}
 use lib.Dec.{ltb}
 use borrow.Author.Tests.{not-true, not-false}
-use Rattle.circuit.specs.Lists.{any, upTo}
-use Rattle.circuit.specs.Words.{used, limit, expressionAt}
-use Rattle.circuit.specs.NotCircuit.{notCircuit, badId}
-use Rattle.circuit.specs.Outcomes.{refusal}
+use Rattle.layout.specs.Lists.{any, upTo}
+use Rattle.layout.specs.Words.{used, limit, expressionAt}
+use Rattle.layout.specs.NotCircuit.{notCircuit, badId}
+use Rattle.layout.specs.Outcomes.{refusal}
 use Rattle.walking.specs.Paths.{paths}
 use Rattle.paths.specs.Counting.{PathCounts}
 use Rattle.reading.specs.Refusals.{overDegree}

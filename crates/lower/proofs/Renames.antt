@@ -9,16 +9,16 @@ use native.Mathlib.Omega.{arith}
 use lib.ListN.{length, getD, set}
 use lib.Dec.{eqb}
 use borrow.Author.Tests.{eqb-true}
-use Rattle.circuit.specs.declared.node.Node.{Node}
-use Rattle.circuit.specs.declared.node.Op.{Op}
-use Rattle.circuit.specs.declared.node.Op.the-variants.{Add, Multiply}
-use Rattle.circuit.specs.declared.node.Expression.the-variants.{Operation}
+use Rattle.layout.specs.declared.node.Node.{Node}
+use Rattle.layout.specs.declared.node.Op.{Op}
+use Rattle.layout.specs.declared.node.Op.the-variants.{Add, Multiply}
+use Rattle.layout.specs.declared.node.Expression.the-variants.{Operation}
 use Rattle.circuit.specs.declared.check.Step.{Step}
 use Rattle.circuit.specs.declared.check.Step.the-variants.{Stay, Two}
-use Rattle.circuit.specs.Lists.{upTo, each}
-use Rattle.circuit.specs.Words.{offset, word, decode, nodeAt, expressionAt, opKind}
+use Rattle.layout.specs.Lists.{upTo, each}
+use Rattle.layout.specs.Words.{offset, word, decode, nodeAt, expressionAt, opKind}
 use Rattle.circuit.specs.Walk.{stepOf}
-use Rattle.circuit.proofs.Tests.{either, is-false}
+use Rattle.layout.proofs.Tests.{either, is-false}
 use Rattle.circuit.proofs.Places.{operation-words}
 use Rattle.paths.proofs.Walks.{step-two}
 use Rattle.lowering.specs.Lowering.{renamed, renameOperands}

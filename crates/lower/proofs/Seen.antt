@@ -8,9 +8,9 @@ use native.Mathlib.Omega.{arith}
 use lib.ListN.{length, getD, take}
 use lib.Dec.{ltb}
 use borrow.Author.Tests.{lt-ltb, ltb-true}
-use Rattle.circuit.specs.Lists.{any}
-use Rattle.circuit.proofs.Tests.{or-false, or-right, neither}
-use Rattle.circuit.proofs.Lists.{or-left, same-test}
+use Rattle.layout.specs.Lists.{any}
+use Rattle.layout.proofs.Tests.{or-false, or-right, neither}
+use Rattle.layout.proofs.Lists.{or-left, same-test}
 
 -- two tests of an order that follow from each other are one
 pub ltb-same : (a b c d : ℕ) → (a < b → c < d) → (c < d → a < b) → ltb a b ≡ ltb c d

@@ -10,10 +10,10 @@ use lib.ListN.{length, getD, set, take, length-set, length-append}
 use lib.Seq.{take-suc-set}
 use lib.Dec.{ltb, eqb}
 use borrow.Author.Tests.{ltb-true, lt-ltb, le-ltb, eq-eqb}
-use Rattle.circuit.specs.Lists.{if_then_else_, upTo, keep, each}
+use Rattle.layout.specs.Lists.{if_then_else_, upTo, keep, each}
 use Rattle.circuit.specs.Rank.{at}
-use Rattle.circuit.proofs.Tests.{below-or}
-use Rattle.circuit.proofs.Lists.{and-true}
+use Rattle.layout.proofs.Tests.{below-or}
+use Rattle.layout.proofs.Lists.{and-true}
 use Rattle.lowering.specs.Lowering.{Candidate, better, best}
 use Rattle.lower.specs.Tables.{isHighIn, highIn, Listed, isCandidateIn, candidateIn, bestIn, improved}
 

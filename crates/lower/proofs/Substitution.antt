@@ -3,12 +3,12 @@ use Prim.Native.Nat.{ℕ, _<_, _≤_}
 use mathlib.Core.Path.{_≡_, _∙_}
 use mathlib.Core.Bool.{Bool, false}
 use mathlib.Core.List.{List, map}
-use Rattle.circuit.specs.declared.node.Expression.{Expression}
-use Rattle.circuit.specs.Words.{used, limit, made}
-use Rattle.circuit.specs.Tree.{tree}
+use Rattle.layout.specs.declared.node.Expression.{Expression}
+use Rattle.layout.specs.Words.{used, limit, made}
+use Rattle.layout.specs.Tree.{tree}
 use Rattle.circuit.specs.Rank.{at}
-use Rattle.circuit.proofs.Lists.{clash}
-use Rattle.circuit.proofs.Valid.{valid-room}
+use Rattle.layout.proofs.Lists.{clash}
+use Rattle.layout.proofs.Valid.{valid-room}
 use Rattle.build.specs.declared.steps.Made.{Made}
 use Rattle.build.specs.declared.steps.Made.the-variants.{At, Full}
 use Rattle.building.specs.Building.{Built, findOrMake, subtracted, full}

@@ -8,13 +8,13 @@ use native.Mathlib.Omega.{arith}
 use lib.ListN.{length, take}
 use lib.Dec.{leb}
 use borrow.Author.Tests.{lt-leb}
-use Rattle.circuit.specs.Lists.{if_then_else_, upTo, any, keep}
-use Rattle.circuit.specs.Words.{used}
-use Rattle.circuit.specs.Tree.{tree}
-use Rattle.circuit.specs.NotCircuit.{notCircuit, badId}
+use Rattle.layout.specs.Lists.{if_then_else_, upTo, any, keep}
+use Rattle.layout.specs.Words.{used}
+use Rattle.layout.specs.Tree.{tree}
+use Rattle.layout.specs.NotCircuit.{notCircuit, badId}
 use Rattle.circuit.specs.Rank.{at, Sorted}
-use Rattle.circuit.proofs.Tests.{is-false}
-use Rattle.circuit.proofs.Lists.{clash, upTo-length}
+use Rattle.layout.proofs.Tests.{is-false}
+use Rattle.layout.proofs.Lists.{clash, upTo-length}
 use Rattle.paths.specs.Counting.{PathCounts, Countable}
 use Rattle.paths.proofs.Below.{any-some}
 use Rattle.paths.proofs.Counts.{valid-top}

@@ -7,14 +7,14 @@ use mathlib.Core.Option.{some}
 use mathlib.Core.List.{List}
 use native.Mathlib.Omega.{arith}
 use lib.ListN.{length, drop, length-append, length-drop}
-use Rattle.circuit.specs.declared.node.Position.{Position}
-use Rattle.circuit.specs.declared.node.Position.the-variants.{Main, Aux}
-use Rattle.circuit.specs.declared.node.Expression.the-variants.{Input}
-use Rattle.circuit.specs.Lists.{if_then_else_, written, bit}
-use Rattle.circuit.specs.Words.{used, limit, column, isMain, isNext}
-use Rattle.circuit.specs.Tree.{inputLeaf, tree}
-use Rattle.circuit.specs.Answers.{accepted}
-use Rattle.circuit.proofs.Lists.{clash}
+use Rattle.layout.specs.declared.node.Position.{Position}
+use Rattle.layout.specs.declared.node.Position.the-variants.{Main, Aux}
+use Rattle.layout.specs.declared.node.Expression.the-variants.{Input}
+use Rattle.layout.specs.Lists.{if_then_else_, written, bit}
+use Rattle.layout.specs.Words.{used, limit, column, isMain, isNext}
+use Rattle.layout.specs.Tree.{inputLeaf, tree}
+use Rattle.layout.specs.Answers.{accepted}
+use Rattle.layout.proofs.Lists.{clash}
 use Rattle.paths.proofs.Written.{written-none}
 use Rattle.reading.specs.Readings.{isBase}
 use Rattle.lowering.specs.Lowering.{Lowering, M, tooHigh, candidates, best, substituted}

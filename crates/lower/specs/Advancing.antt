@@ -4,9 +4,9 @@ use mathlib.Core.Path.{_≡_}
 use mathlib.Core.Bool.{true}
 use mathlib.Core.List.{List}
 use lib.ListN.{length, set}
-use Rattle.circuit.specs.Lists.{if_then_else_, written}
-use Rattle.circuit.specs.Outcomes.{Outcome}
-use Rattle.circuit.specs.Answers.{accepted}
+use Rattle.layout.specs.Lists.{if_then_else_, written}
+use Rattle.layout.specs.Outcomes.{Outcome}
+use Rattle.layout.specs.Answers.{accepted}
 use Rattle.lowering.specs.Lowering.{Lowering, tooHigh, candidates, best, substituted, lowered}
 use Rattle.lower.specs.declared.calls.Progress.{Progress}
 use Rattle.lower.specs.declared.substitute.Constraint.{Constraint}

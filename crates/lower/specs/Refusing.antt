@@ -4,10 +4,10 @@ use mathlib.Core.Path.{_≡_}
 use mathlib.Core.Bool.{Bool, false, _&&_, _||_}
 use mathlib.Core.List.{List, [], _∷_}
 use lib.Dec.{ltb}
-use Rattle.circuit.specs.Lists.{any, upTo}
-use Rattle.circuit.specs.Words.{used, expressionAt}
-use Rattle.circuit.specs.NotCircuit.{notCircuit, badId}
-use Rattle.circuit.specs.Outcomes.{refusal}
+use Rattle.layout.specs.Lists.{any, upTo}
+use Rattle.layout.specs.Words.{used, expressionAt}
+use Rattle.layout.specs.NotCircuit.{notCircuit, badId}
+use Rattle.layout.specs.Outcomes.{refusal}
 use Rattle.walking.specs.Paths.{paths}
 use Rattle.reading.specs.Refusals.{overDegree}
 use Rattle.lowering.specs.Lowering.{M}

@@ -3,13 +3,13 @@ use Prim.Native.Nat.{ℕ, _<_}
 use mathlib.Core.Path.{_≡_}
 use mathlib.Core.Bool.{Bool, false}
 use mathlib.Core.List.{List, map}
-use Rattle.circuit.specs.declared.node.Position.the-variants.{Main, Aux}
-use Rattle.circuit.specs.declared.node.Expression.{Expression}
-use Rattle.circuit.specs.declared.node.Expression.the-variants.{Input}
-use Rattle.circuit.specs.Lists.{if_then_else_}
-use Rattle.circuit.specs.Words.{used, limit, made}
-use Rattle.circuit.specs.Tree.{tree}
-use Rattle.circuit.specs.NotCircuit.{notCircuit}
+use Rattle.layout.specs.declared.node.Position.the-variants.{Main, Aux}
+use Rattle.layout.specs.declared.node.Expression.{Expression}
+use Rattle.layout.specs.declared.node.Expression.the-variants.{Input}
+use Rattle.layout.specs.Lists.{if_then_else_}
+use Rattle.layout.specs.Words.{used, limit, made}
+use Rattle.layout.specs.Tree.{tree}
+use Rattle.layout.specs.NotCircuit.{notCircuit}
 use Rattle.building.specs.Building.{Built, built, findOrMake, subtracted, full}
 use Rattle.reading.specs.Readings.{isBase}
 use Rattle.lower.specs.declared.substitute.Constraint.{Constraint}

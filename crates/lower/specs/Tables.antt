@@ -5,9 +5,9 @@ use mathlib.Core.Bool.{Bool, _&&_, not}
 use mathlib.Core.List.{List, map}
 use lib.ListN.{length, take}
 use lib.Dec.{ltb}
-use Rattle.circuit.specs.Lists.{if_then_else_, upTo, keep}
-use Rattle.circuit.specs.Words.{used, registered}
-use Rattle.circuit.specs.Tree.{tree}
+use Rattle.layout.specs.Lists.{if_then_else_, upTo, keep}
+use Rattle.layout.specs.Words.{used, registered}
+use Rattle.layout.specs.Tree.{tree}
 use Rattle.circuit.specs.Rank.{at}
 use Rattle.reading.specs.Readings.{degree⁺}
 use Rattle.lower.specs.declared.choose.Choice.{Choice}

@@ -1,7 +1,7 @@
 -- What a lowering answers, in document 01's number and two counts. Assumes nothing.
 use Prim.Native.Nat.{ℕ}
-use Rattle.circuit.specs.Outcomes.{Outcome}
-use Rattle.circuit.specs.Answers.{accepted, refused}
+use Rattle.layout.specs.Outcomes.{Outcome}
+use Rattle.layout.specs.Answers.{accepted, refused}
 use Rattle.lowering.specs.declared.Lowered.{Lowered}
 use Rattle.lowering.specs.declared.Lowered.the-variants.{Counts, Refused}
 use Rattle.lowering.specs.Lowering.{Lowering}

@@ -1,13 +1,13 @@
 // The redirect: every operand of a registered node and every root that names the chosen node now names the new input.
 use circuit::check::Step;
+use circuit::check::step_at;
 use circuit::place::node_at;
 use circuit::place::write_word;
-use paths::counting::step_at;
 ghost use mathlib.Core.Path.{_≡_};
 ghost use mathlib.Core.List.{map};
 ghost use Prim.Native.Nat.{_+_, _<_, _≤_};
 ghost use lib.ListN.{length};
-ghost use Rattle.circuit.specs.Words.{used, limit, offset};
+ghost use Rattle.layout.specs.Words.{used, limit, offset};
 ghost use Rattle.lowering.specs.Lowering.{renamed, renameOperands, redirected};
 
 // s becomes n where it is named.

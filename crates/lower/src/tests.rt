@@ -1,18 +1,18 @@
 // The tests of a lowering, one by one: from the circuit, and from tables with an entry for each node.
 use crate::choose::entry;
 use crate::choose::is_above;
-use circuit::node::Expression;
-use circuit::node::Position;
 use circuit::place::expression_at;
 use circuit::place::node_at;
+use layout::node::Expression;
+use layout::node::Position;
 ghost use mathlib.Core.Path.{_≡_};
 ghost use mathlib.Core.Bool.{false};
 ghost use Prim.Native.Nat.{_+_, _≤_};
 ghost use lib.ListN.{length};
 ghost use lib.Dec.{ltb};
-ghost use Rattle.circuit.specs.Lists.{any, upTo};
-ghost use Rattle.circuit.specs.Words.{used, offset, expressionAt};
-ghost use Rattle.circuit.specs.NotCircuit.{notCircuit};
+ghost use Rattle.layout.specs.Lists.{any, upTo};
+ghost use Rattle.layout.specs.Words.{used, offset, expressionAt};
+ghost use Rattle.layout.specs.NotCircuit.{notCircuit};
 ghost use Rattle.lowering.specs.Refusals.{atOrAbove, inputAtOrAbove};
 ghost use Rattle.lower.specs.Tables.{aboveIn, isLooseIn, isOverIn};
 

@@ -9,16 +9,16 @@ use lib.ListN.{length, drop}
 use lib.Dec.{ltb, leb}
 use lib.Seq.{take-append-seam}
 use borrow.Author.Tests.{ltb-false, leb-false}
-use Rattle.field.specs.Base.{p}
-use Rattle.circuit.specs.Lists.{if_then_else_, upTo, any, written}
-use Rattle.circuit.specs.declared.node.Position.{Position}
-use Rattle.circuit.specs.declared.node.Position.the-variants.{Main, Aux, NextMain, NextAux}
-use Rattle.circuit.specs.declared.node.Expression.{Expression}
-use Rattle.circuit.specs.declared.node.Expression.the-variants.{Base, Extension, Challenge, Operation, Input}
-use Rattle.circuit.specs.Words.{used, expressionAt}
-use Rattle.circuit.specs.Tree.{inputLeaf}
-use Rattle.circuit.specs.NotCircuit.{badId, notCircuit}
-use Rattle.circuit.specs.Outcomes.{refusal, numbered, outcome}
+use Rattle.arithmetic.specs.Base.{p}
+use Rattle.layout.specs.Lists.{if_then_else_, upTo, any, written}
+use Rattle.layout.specs.declared.node.Position.{Position}
+use Rattle.layout.specs.declared.node.Position.the-variants.{Main, Aux, NextMain, NextAux}
+use Rattle.layout.specs.declared.node.Expression.{Expression}
+use Rattle.layout.specs.declared.node.Expression.the-variants.{Base, Extension, Challenge, Operation, Input}
+use Rattle.layout.specs.Words.{used, expressionAt}
+use Rattle.layout.specs.Tree.{inputLeaf}
+use Rattle.layout.specs.NotCircuit.{badId, notCircuit}
+use Rattle.layout.specs.Outcomes.{refusal, numbered, outcome}
 use Rattle.walking.specs.Refusals.{noRoom}
 use Rattle.lowering.specs.Lowering.{Lowering, M, tooHigh, lowered}
 use Rattle.lowering.specs.Refusals.{atOrAbove, inputAtOrAbove, badColumns, loose, fullLowering}

@@ -7,11 +7,11 @@ use mathlib.Core.Option.{some}
 use mathlib.Core.List.{List, [], _∷_, map}
 use native.Mathlib.Omega.{arith}
 use lib.ListN.{length}
-use Rattle.field.specs.Base.{minusOne}
-use Rattle.circuit.specs.declared.node.Position.{Position}
-use Rattle.circuit.specs.declared.node.Op.the-variants.{Add, Multiply}
-use Rattle.circuit.specs.Tree.{Leaf, baseLeaf, inputLeaf}
-use Rattle.circuit.specs.Lists.{In}
+use Rattle.arithmetic.specs.Base.{minusOne}
+use Rattle.layout.specs.declared.node.Position.{Position}
+use Rattle.layout.specs.declared.node.Op.the-variants.{Add, Multiply}
+use Rattle.layout.specs.Tree.{Leaf, baseLeaf, inputLeaf}
+use Rattle.layout.specs.Lists.{In}
 use Rattle.reading.specs.Readings.{productDegree⁺}
 use Rattle.lowering.proofs.Shape.{leafE, opE, Shape, lf, op, Look, Unf, deg}
 use Rattle.lowering.proofs.Steps.{Moved, Minus, Gap, sum, swapped, Move, Step, Run, done, more, Standing, Led, NotIn, Distinct, Regs, Rooted, AtMost, Heavy, redirId, Lowered, stop, step}

@@ -8,11 +8,11 @@ use mathlib.Core.List.{List, [], _∷_, _++_, map}
 use native.Mathlib.Omega.{arith}
 use lib.Dec.{eqb, ltb}
 use borrow.Author.Tests.{ltb-true, ltb-false, eqb-true, not-true, not-false, lt-ltb, le-ltb}
-use Rattle.circuit.specs.Lists.{if_then_else_, upTo, keep, each, In}
-use Rattle.circuit.specs.declared.node.Op.{Op}
-use Rattle.circuit.specs.declared.node.Op.the-variants.{Add, Multiply}
-use Rattle.circuit.specs.Words.{used, registered}
-use Rattle.circuit.specs.Tree.{Tree, leaf, branch, tree}
+use Rattle.layout.specs.Lists.{if_then_else_, upTo, keep, each, In}
+use Rattle.layout.specs.declared.node.Op.{Op}
+use Rattle.layout.specs.declared.node.Op.the-variants.{Add, Multiply}
+use Rattle.layout.specs.Words.{used, registered}
+use Rattle.layout.specs.Tree.{Tree, leaf, branch, tree}
 use Rattle.walking.specs.Paths.{walk, walks, paths}
 use Rattle.reading.specs.Readings.{productDegree⁺, degree⁺, above}
 use Rattle.lowering.specs.Lowering.{belowAbove, tooHigh, Candidate, candidates, better, best}

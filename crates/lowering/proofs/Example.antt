@@ -4,11 +4,11 @@ use mathlib.Core.Path.{_≡_, refl}
 use mathlib.Core.Bool.{true}
 use mathlib.Core.List.{List, [], _∷_}
 use lib.ListN.{replicate}
-use Rattle.field.specs.Base.{minusOne}
-use Rattle.circuit.specs.Lists.{count}
-use Rattle.circuit.specs.declared.node.Op.the-variants.{Multiply}
-use Rattle.circuit.specs.declared.node.Expression.the-variants.{Operation}
-use Rattle.circuit.specs.Words.{nodeAt}
+use Rattle.arithmetic.specs.Base.{minusOne}
+use Rattle.layout.specs.Lists.{count}
+use Rattle.layout.specs.declared.node.Op.the-variants.{Multiply}
+use Rattle.layout.specs.declared.node.Expression.the-variants.{Operation}
+use Rattle.layout.specs.Words.{nodeAt}
 use Rattle.lowering.specs.Lowering.{Lowering, tooHigh, redirected, lowered}
 use Rattle.lowering.specs.Refusals.{loose}
 use Rattle.lowering.specs.Calls.{lowerCall, returned}

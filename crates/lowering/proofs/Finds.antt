@@ -10,15 +10,15 @@ use native.Mathlib.Omega.{arith}
 use lib.ListN.{length, getD}
 use lib.Dec.{eqb}
 use borrow.Author.Tests.{eqb-true, eq-eqb}
-use Rattle.circuit.specs.Lists.{upTo, sameWords}
-use Rattle.circuit.specs.declared.node.Position.{Position}
-use Rattle.circuit.specs.declared.node.Op.{Op}
-use Rattle.circuit.specs.declared.node.Op.the-variants.{Add, Multiply}
-use Rattle.circuit.specs.declared.node.Expression.{Expression}
-use Rattle.circuit.specs.declared.node.Expression.the-variants.{Base, Extension, Challenge, Operation, Input}
-use Rattle.circuit.specs.declared.node.Node.{Node}
-use Rattle.circuit.specs.Words.{used, decode, registered, opKind, encode, made}
-use Rattle.circuit.specs.Tree.{Leaf, baseLeaf, extensionLeaf, challengeLeaf, inputLeaf, Tree, leaf, branch, tree, treeOf, plain, same}
+use Rattle.layout.specs.Lists.{upTo, sameWords}
+use Rattle.layout.specs.declared.node.Position.{Position}
+use Rattle.layout.specs.declared.node.Op.{Op}
+use Rattle.layout.specs.declared.node.Op.the-variants.{Add, Multiply}
+use Rattle.layout.specs.declared.node.Expression.{Expression}
+use Rattle.layout.specs.declared.node.Expression.the-variants.{Base, Extension, Challenge, Operation, Input}
+use Rattle.layout.specs.declared.node.Node.{Node}
+use Rattle.layout.specs.Words.{used, decode, registered, opKind, encode, made}
+use Rattle.layout.specs.Tree.{Leaf, baseLeaf, extensionLeaf, challengeLeaf, inputLeaf, Tree, leaf, branch, tree, treeOf, plain, same}
 use Rattle.building.specs.Building.{Built, built, find, orElse, findOrMake, eitherOrder}
 use Rattle.lowering.proofs.Shape.{Expr, leafE, opE, exprOf, Shape, lf, op, shape, Look, Unf}
 use Rattle.lowering.proofs.Steps.{more}

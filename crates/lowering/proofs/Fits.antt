@@ -8,10 +8,10 @@ use native.Mathlib.Omega.{arith}
 use lib.ListN.{length, drop, length-append, length-drop}
 use lib.Dec.{ltb}
 use borrow.Author.Tests.{ltb-false}
-use Rattle.circuit.specs.Lists.{if_then_else_, upTo, any, written}
-use Rattle.circuit.specs.Words.{used, limit, expressionAt}
-use Rattle.circuit.specs.NotCircuit.{notCircuit}
-use Rattle.circuit.specs.Outcomes.{refusal}
+use Rattle.layout.specs.Lists.{if_then_else_, upTo, any, written}
+use Rattle.layout.specs.Words.{used, limit, expressionAt}
+use Rattle.layout.specs.NotCircuit.{notCircuit}
+use Rattle.layout.specs.Outcomes.{refusal}
 use Rattle.lowering.specs.Lowering.{Lowering, M, tooHigh, loop, lowered}
 use Rattle.lowering.specs.Refusals.{inputAtOrAbove, badColumns, fullLowering}
 use Rattle.lowering.specs.Calls.{testsThen, lowerCall}

@@ -9,10 +9,10 @@ use native.Mathlib.Decide.{ℕ-discrete}
 use native.Mathlib.Omega.{arith}
 use lib.ListN.{length, getD, List·getD-append}
 use lib.Seq.{getD-append-seam}
-use Rattle.circuit.specs.Lists.{if_then_else_, In}
-use Rattle.circuit.specs.declared.node.Position.{Position}
-use Rattle.circuit.specs.declared.node.Position.the-variants.{Main, Aux, NextMain, NextAux}
-use Rattle.circuit.specs.Words.{used, registered, column}
+use Rattle.layout.specs.Lists.{if_then_else_, In}
+use Rattle.layout.specs.declared.node.Position.{Position}
+use Rattle.layout.specs.declared.node.Position.the-variants.{Main, Aux, NextMain, NextAux}
+use Rattle.layout.specs.Words.{used, registered, column}
 use Rattle.lowering.specs.Lowering.{Lowering, tooHigh, candidates, best, substituted, loop}
 use Rattle.lowering.proofs.Steps.{Standing, TooHigh, Lowered, stop, step}
 use Rattle.lowering.proofs.ListLaws.{in-left, in-right, in-cases}

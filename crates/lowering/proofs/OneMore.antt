@@ -7,10 +7,10 @@ use mathlib.Core.Option.{some}
 use mathlib.Core.List.{List, [], _∷_, _++_, map}
 use native.Mathlib.Omega.{arith}
 use lib.ListN.{length, getD, length-append}
-use Rattle.circuit.specs.declared.node.Position.{Position}
-use Rattle.circuit.specs.declared.node.Position.the-variants.{Main, Aux, NextMain, NextAux}
-use Rattle.circuit.specs.Words.{used, registered, column, isMain}
-use Rattle.circuit.specs.Tree.{inputLeaf, tree}
+use Rattle.layout.specs.declared.node.Position.{Position}
+use Rattle.layout.specs.declared.node.Position.the-variants.{Main, Aux, NextMain, NextAux}
+use Rattle.layout.specs.Words.{used, registered, column, isMain}
+use Rattle.layout.specs.Tree.{inputLeaf, tree}
 use Rattle.reading.specs.Readings.{isBase}
 use Rattle.lowering.specs.Lowering.{renamed, Lowering, tooHigh, candidates, best, substituted}
 use Rattle.lowering.proofs.Shape.{leafE, Shape, Unf, baseS}

@@ -10,14 +10,14 @@ use native.Mathlib.Omega.{arith}
 use lib.ListN.{length, getD}
 use lib.Dec.{eqb, ltb}
 use borrow.Author.Tests.{ltb-false, le-ltb, lt-leb}
-use Rattle.field.specs.Extension.{unlifts}
-use Rattle.circuit.specs.Lists.{upTo, any, In}
-use Rattle.circuit.specs.declared.node.Op.{Op}
-use Rattle.circuit.specs.declared.node.Expression.{Expression}
-use Rattle.circuit.specs.declared.node.Expression.the-variants.{Base, Extension, Challenge, Operation, Input}
-use Rattle.circuit.specs.Words.{used, limit, word, expressionAt, column, made, isNext}
-use Rattle.circuit.specs.Tree.{Leaf, baseLeaf, extensionLeaf, challengeLeaf, inputLeaf}
-use Rattle.circuit.specs.NotCircuit.{badRow, badIndex, badWord, badWords, badExpression, badNode, eitherOperand, goesOn, cyclic, badHeader, notCircuit}
+use Rattle.arithmetic.specs.Extension.{unlifts}
+use Rattle.layout.specs.Lists.{upTo, any, In}
+use Rattle.layout.specs.declared.node.Op.{Op}
+use Rattle.layout.specs.declared.node.Expression.{Expression}
+use Rattle.layout.specs.declared.node.Expression.the-variants.{Base, Extension, Challenge, Operation, Input}
+use Rattle.layout.specs.Words.{used, limit, word, expressionAt, column, made, isNext}
+use Rattle.layout.specs.Tree.{Leaf, baseLeaf, extensionLeaf, challengeLeaf, inputLeaf}
+use Rattle.layout.specs.NotCircuit.{badRow, badIndex, badWord, badWords, badExpression, badNode, eitherOperand, goesOn, cyclic, badHeader, notCircuit}
 use Rattle.lowering.specs.Lowering.{redirected}
 use Rattle.lowering.proofs.Shape.{leafE, opE, exprOf, Shape, lf, op, Unf, depth}
 use Rattle.lowering.proofs.ListLaws.{or-false, in-upTo}

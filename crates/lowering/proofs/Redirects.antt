@@ -11,15 +11,15 @@ use lib.ListN.{length, getD, set, length-set}
 use lib.Seq.{getD-set-same, getD-set-other}
 use lib.Dec.{eqb}
 use borrow.Author.Tests.{eqb-true, eq-eqb, ne-eqb}
-use Rattle.field.specs.Extension.{triple}
-use Rattle.circuit.specs.Lists.{if_then_else_, upTo, each}
-use Rattle.circuit.specs.declared.node.Position.the-variants.{Main, Aux, NextMain, NextAux}
-use Rattle.circuit.specs.declared.node.Op.the-variants.{Add, Multiply}
-use Rattle.circuit.specs.declared.node.Expression.{Expression}
-use Rattle.circuit.specs.declared.node.Expression.the-variants.{Base, Extension, Challenge, Operation, Input}
-use Rattle.circuit.specs.declared.node.Node.{Node}
-use Rattle.circuit.specs.Words.{used, offset, word, decode, nodeAt, expressionAt, registered}
-use Rattle.circuit.specs.Tree.{Leaf}
+use Rattle.arithmetic.specs.Extension.{triple}
+use Rattle.layout.specs.Lists.{if_then_else_, upTo, each}
+use Rattle.layout.specs.declared.node.Position.the-variants.{Main, Aux, NextMain, NextAux}
+use Rattle.layout.specs.declared.node.Op.the-variants.{Add, Multiply}
+use Rattle.layout.specs.declared.node.Expression.{Expression}
+use Rattle.layout.specs.declared.node.Expression.the-variants.{Base, Extension, Challenge, Operation, Input}
+use Rattle.layout.specs.declared.node.Node.{Node}
+use Rattle.layout.specs.Words.{used, offset, word, decode, nodeAt, expressionAt, registered}
+use Rattle.layout.specs.Tree.{Leaf}
 use Rattle.lowering.specs.Lowering.{renamed, renameOperands, redirected}
 use Rattle.lowering.proofs.Shape.{Expr, leafE, opE, exprOf, pick}
 use Rattle.lowering.proofs.Steps.{Kept, redirId, redirE}

@@ -7,9 +7,9 @@ use mathlib.Core.Option.{some}
 use mathlib.Core.List.{List, map}
 use native.Mathlib.Decide.{decLe}
 use native.Mathlib.Omega.{arith}
-use Rattle.circuit.specs.declared.node.Position.{Position}
-use Rattle.circuit.specs.declared.node.Op.{Op}
-use Rattle.circuit.specs.declared.node.Op.the-variants.{Add, Multiply}
+use Rattle.layout.specs.declared.node.Position.{Position}
+use Rattle.layout.specs.declared.node.Op.{Op}
+use Rattle.layout.specs.declared.node.Op.the-variants.{Add, Multiply}
 use Rattle.reading.specs.Readings.{productDegree⁺}
 use Rattle.lowering.proofs.Shape.{opE, Shape, lf, op, Look, Unf, sub, degOp, deg}
 use Rattle.lowering.proofs.Steps.{Below, root, left, right, Regs, Heavy, TooHigh, Choice, redirId, Stepped, step}

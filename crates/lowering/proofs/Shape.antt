@@ -5,16 +5,16 @@ use mathlib.Core.Bool.{Bool, _&&_}
 use mathlib.Core.Option.{Option, some}
 use native.Mathlib.Decide.{ℕ-discrete}
 use native.Mathlib.Omega.{arith}
-use Rattle.field.specs.declared.extension.Triple.{Triple}
-use Rattle.field.specs.Extension.{lift}
-use Rattle.circuit.specs.declared.node.Position.{Position}
-use Rattle.circuit.specs.declared.node.Position.the-variants.{Main, Aux, NextMain, NextAux}
-use Rattle.circuit.specs.declared.node.Op.{Op}
-use Rattle.circuit.specs.declared.node.Op.the-variants.{Add, Multiply}
-use Rattle.circuit.specs.declared.node.Expression.{Expression}
-use Rattle.circuit.specs.declared.node.Expression.the-variants.{Base, Extension, Challenge, Operation, Input}
-use Rattle.circuit.specs.Words.{inputKind, column, apply}
-use Rattle.circuit.specs.Tree.{Leaf, baseLeaf, extensionLeaf, challengeLeaf, inputLeaf, Tree, leaf, branch}
+use Rattle.arithmetic.specs.declared.Triple.{Triple}
+use Rattle.arithmetic.specs.Extension.{lift}
+use Rattle.layout.specs.declared.node.Position.{Position}
+use Rattle.layout.specs.declared.node.Position.the-variants.{Main, Aux, NextMain, NextAux}
+use Rattle.layout.specs.declared.node.Op.{Op}
+use Rattle.layout.specs.declared.node.Op.the-variants.{Add, Multiply}
+use Rattle.layout.specs.declared.node.Expression.{Expression}
+use Rattle.layout.specs.declared.node.Expression.the-variants.{Base, Extension, Challenge, Operation, Input}
+use Rattle.layout.specs.Words.{inputKind, column, apply}
+use Rattle.layout.specs.Tree.{Leaf, baseLeaf, extensionLeaf, challengeLeaf, inputLeaf, Tree, leaf, branch}
 use Rattle.reading.specs.Readings.{leafDegree⁺, productDegree⁺, leafIsBase}
 
 -- what a node says: a leaf, or an operation on two ids

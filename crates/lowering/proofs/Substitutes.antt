@@ -9,14 +9,14 @@ use native.Mathlib.Decide.{ℕ-discrete, decLt}
 use native.Mathlib.Omega.{arith}
 use lib.ListN.{length, getD}
 use borrow.Author.Tests.{le-ltb}
-use Rattle.field.specs.Base.{minusOne}
-use Rattle.circuit.specs.Lists.{if_then_else_}
-use Rattle.circuit.specs.declared.node.Position.{Position}
-use Rattle.circuit.specs.declared.node.Position.the-variants.{Main, Aux}
-use Rattle.circuit.specs.declared.node.Expression.the-variants.{Input}
-use Rattle.circuit.specs.declared.node.Node.{Node}
-use Rattle.circuit.specs.Words.{used, registered, column, made, isMain, isNext}
-use Rattle.circuit.specs.Tree.{baseLeaf, inputLeaf, Tree, leaf, branch, tree}
+use Rattle.arithmetic.specs.Base.{minusOne}
+use Rattle.layout.specs.Lists.{if_then_else_}
+use Rattle.layout.specs.declared.node.Position.{Position}
+use Rattle.layout.specs.declared.node.Position.the-variants.{Main, Aux}
+use Rattle.layout.specs.declared.node.Expression.the-variants.{Input}
+use Rattle.layout.specs.declared.node.Node.{Node}
+use Rattle.layout.specs.Words.{used, registered, column, made, isMain, isNext}
+use Rattle.layout.specs.Tree.{baseLeaf, inputLeaf, Tree, leaf, branch, tree}
 use Rattle.building.specs.Building.{Built, built, find, orElse, findOrMake, subtracted}
 use Rattle.reading.specs.Readings.{isBase}
 use Rattle.lowering.specs.Lowering.{renamed, redirected, Lowering, substituted}

@@ -5,16 +5,16 @@ use mathlib.Core.Logic.{_≢_}
 use mathlib.Core.Bool.{Bool, true, false, _&&_}
 use native.Mathlib.Omega.{arith}
 use lib.Dec.{eqb}
-use Rattle.field.specs.declared.extension.Triple.{Triple}
-use Rattle.field.specs.Base.{add, multiply}
-use Rattle.field.specs.Extension.{Canonical, lift, sameTriple, plus, times}
-use Rattle.field.proofs.Algebra.{canonical-plus, canonical-times, lift-plus, lift-times}
-use Rattle.circuit.specs.Lists.{if_then_else_}
-use Rattle.circuit.specs.declared.node.Position.{Position}
-use Rattle.circuit.specs.declared.node.Op.{Op}
-use Rattle.circuit.specs.declared.node.Op.the-variants.{Add, Multiply}
-use Rattle.circuit.specs.Tree.{Leaf, baseLeaf, extensionLeaf, challengeLeaf, inputLeaf}
-use Rattle.circuit.specs.Words.{apply}
+use Rattle.arithmetic.specs.declared.Triple.{Triple}
+use Rattle.arithmetic.specs.Base.{add, multiply}
+use Rattle.arithmetic.specs.Extension.{Canonical, lift, sameTriple, plus, times}
+use Rattle.arithmetic.proofs.Algebra.{canonical-plus, canonical-times, lift-plus, lift-times}
+use Rattle.layout.specs.Lists.{if_then_else_}
+use Rattle.layout.specs.declared.node.Position.{Position}
+use Rattle.layout.specs.declared.node.Op.{Op}
+use Rattle.layout.specs.declared.node.Op.the-variants.{Add, Multiply}
+use Rattle.layout.specs.Tree.{Leaf, baseLeaf, extensionLeaf, challengeLeaf, inputLeaf}
+use Rattle.layout.specs.Words.{apply}
 use Rattle.reading.specs.Readings.{leafDegree⁺, productDegree⁺}
 use Rattle.lowering.proofs.Shape.{Shape, lf, op, Look, Unf, pick, position-discrete, sub, degOp, deg, baseS, val, upd}
 use Rattle.lowering.proofs.Steps.{Fits}

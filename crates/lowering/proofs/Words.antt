@@ -10,12 +10,12 @@ use native.Mathlib.Omega.{arith}
 use lib.ListN.{length}
 use lib.Dec.{eqb, ltb, leb}
 use borrow.Author.Tests.{ltb-false, leb-false, not-false}
-use Rattle.circuit.specs.Lists.{upTo, any, In}
-use Rattle.circuit.specs.declared.node.Expression.{Expression}
-use Rattle.circuit.specs.declared.node.Expression.the-variants.{Base, Extension, Challenge, Operation, Input}
-use Rattle.circuit.specs.Words.{rowKind, used, limit, word, expressionAt}
-use Rattle.circuit.specs.Tree.{baseLeaf, extensionLeaf, challengeLeaf, inputLeaf, Tree, leaf, branch, treeOver, unfolded, tree, plain}
-use Rattle.circuit.specs.NotCircuit.{badExpression, badNode, goesOn, cyclic, badHeader, notCircuit}
+use Rattle.layout.specs.Lists.{upTo, any, In}
+use Rattle.layout.specs.declared.node.Expression.{Expression}
+use Rattle.layout.specs.declared.node.Expression.the-variants.{Base, Extension, Challenge, Operation, Input}
+use Rattle.layout.specs.Words.{rowKind, used, limit, word, expressionAt}
+use Rattle.layout.specs.Tree.{baseLeaf, extensionLeaf, challengeLeaf, inputLeaf, Tree, leaf, branch, treeOver, unfolded, tree, plain}
+use Rattle.layout.specs.NotCircuit.{badExpression, badNode, goesOn, cyclic, badHeader, notCircuit}
 use Rattle.lowering.proofs.Shape.{Expr, leafE, opE, exprOf, Shape, lf, op, shape, Look, Unf, Whole, depth, pick}
 use Rattle.lowering.proofs.Steps.{Distinct}
 use Rattle.lowering.proofs.ListLaws.{or-false, any-false, upTo-in, upTo-length}

@@ -3,15 +3,16 @@ use Prim.Native.Nat.{ℕ, _-_}
 use mathlib.Core.List.{List, [], _∷_, _++_, map}
 use lib.ListN.{take, drop, replicate}
 use lib.Dec.{T}
-use Rattle.field.specs.Base.{p}
-use Rattle.circuit.specs.declared.node.Position.the-variants.{Main, Aux, NextMain}
-use Rattle.circuit.specs.declared.node.Op.the-variants.{Add, Multiply}
-use Rattle.circuit.specs.declared.node.Expression.{Expression}
-use Rattle.circuit.specs.declared.node.Expression.the-variants.{Base, Operation, Input}
-use Rattle.circuit.specs.Lists.{agree}
-use Rattle.circuit.specs.Words.{used, offset}
-use Rattle.circuit.specs.Outcomes.{Outcome}
-use Rattle.circuit.specs.Samples.{sample, loosen}
+use Rattle.arithmetic.specs.Base.{p}
+use Rattle.arithmetic.specs.Extension.{triple}
+use Rattle.layout.specs.declared.node.Position.the-variants.{Main, Aux, NextMain, NextAux}
+use Rattle.layout.specs.declared.node.Op.the-variants.{Add, Multiply}
+use Rattle.layout.specs.declared.node.Expression.{Expression}
+use Rattle.layout.specs.declared.node.Expression.the-variants.{Base, Extension, Challenge, Operation, Input}
+use Rattle.layout.specs.Lists.{agree}
+use Rattle.layout.specs.Words.{used, offset}
+use Rattle.layout.specs.Outcomes.{Outcome}
+use Rattle.layout.specs.Samples.{sample, loosen}
 use Rattle.lowering.specs.Lowering.{Lowering, M, candidates, best}
 use Rattle.lowering.specs.Calls.{lowerCall}
 use Rattle.lowering.specs.Computing.{lowerComputes}
@@ -50,7 +51,7 @@ table =
     -- COLUMNS: any used node, below a root or not; next-row inputs don't count; a count + M over 65,536
     ∷ (
       lowerCall 2 1 0 (lending (sample 1 6 (Input (Main 0) ∷ Operation Multiply 0 0 ∷ Operation Multiply 1 1 ∷ Input (Aux 0) ∷ [])) (2 ∷ []) 2) .number
-          ∷ lowerCall 2 1 0 (lending (sample 2 6 (Input (Main 0) ∷ Operation Multiply 0 0 ∷ Operation Multiply 1 1 ∷ Input (NextMain 9) ∷ [])) (2 ∷ []) 2) .number
+          ∷ lowerCall 2 1 0 (lending (sample 2 6 (Input (Main 0) ∷ Operation Multiply 0 0 ∷ Operation Multiply 1 1 ∷ Input (NextMain 9) ∷ Input (NextAux 9) ∷ Base 9 ∷ Extension (triple 9 9 9) ∷ Challenge 9 ∷ [])) (2 ∷ []) 2) .number
           ∷ [],
       9 ∷ 0 ∷ [],
     )

@@ -4,11 +4,11 @@ use mathlib.Core.Bool.{Bool, _&&_, _||_, not}
 use mathlib.Core.List.{List, [], _∷_, _++_, map}
 use lib.ListN.{length, set}
 use lib.Dec.{ltb, eqb}
-use Rattle.circuit.specs.declared.node.Position.the-variants.{Main, Aux}
-use Rattle.circuit.specs.declared.node.Expression.the-variants.{Input}
-use Rattle.circuit.specs.Lists.{if_then_else_, upTo, any, keep, each}
-use Rattle.circuit.specs.Words.{used, offset, word, registered}
-use Rattle.circuit.specs.Tree.{tree}
+use Rattle.layout.specs.declared.node.Position.the-variants.{Main, Aux}
+use Rattle.layout.specs.declared.node.Expression.the-variants.{Input}
+use Rattle.layout.specs.Lists.{if_then_else_, upTo, any, keep, each}
+use Rattle.layout.specs.Words.{used, offset, word, registered}
+use Rattle.layout.specs.Tree.{tree}
 use Rattle.building.specs.Building.{findOrMake, subtracted}
 use Rattle.walking.specs.Paths.{paths}
 use Rattle.reading.specs.Readings.{degree⁺, above, isBase}

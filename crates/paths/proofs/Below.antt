@@ -7,16 +7,16 @@ use mathlib.Core.List.{List, [], _∷_, _++_, append-nil}
 use native.Mathlib.Omega.{arith}
 use lib.Dec.{eqb, ltb}
 use borrow.Author.Tests.{eqb-true, eq-eqb, lt-ltb, ltb-true}
-use Rattle.circuit.specs.declared.node.Expression.{Expression}
-use Rattle.circuit.specs.declared.node.Expression.the-variants.{Base, Extension, Challenge, Operation, Input}
-use Rattle.circuit.specs.Lists.{upTo, In, any, count}
-use Rattle.circuit.specs.Words.{used, expressionAt}
-use Rattle.circuit.specs.NotCircuit.{notCircuit, badId}
-use Rattle.circuit.specs.Tree.{unfolded, tree}
+use Rattle.layout.specs.declared.node.Expression.{Expression}
+use Rattle.layout.specs.declared.node.Expression.the-variants.{Base, Extension, Challenge, Operation, Input}
+use Rattle.layout.specs.Lists.{upTo, In, any, count}
+use Rattle.layout.specs.Words.{used, expressionAt}
+use Rattle.layout.specs.NotCircuit.{notCircuit, badId}
+use Rattle.layout.specs.Tree.{unfolded, tree}
 use Rattle.circuit.specs.Rank.{at}
-use Rattle.circuit.proofs.Tests.{either, or-right, any-one, any-start, any-more}
-use Rattle.circuit.proofs.Lists.{clash, or-left, and-true, and-both, same-test, any-true}
-use Rattle.circuit.proofs.Valid.{valid-operands}
+use Rattle.layout.proofs.Tests.{either, or-right, any-one, any-start, any-more}
+use Rattle.layout.proofs.Lists.{clash, or-left, and-true, and-both, same-test, any-true}
+use Rattle.layout.proofs.Valid.{valid-operands}
 use Rattle.walking.specs.Paths.{walk, walks, paths}
 use Rattle.paths.specs.Counting.{PathCounts}
 use Rattle.paths.proofs.Walks.{hit-same, paths-more, roots-first, from-step}
@@ -102,7 +102,7 @@ module _ (m : List ℕ) (valid : notCircuit m ≡ false) where
   unfolded-below zero i x l (inr h) = absurd h
   unfolded-below (suc levels) i x l h = go (expressionAt m i) refl h (unfolded-below levels)
     where
-      go : (e : Expression) → expressionAt m i ≡ e → In x (walk (Rattle.circuit.specs.Tree.treeOver i e (unfolded m levels))) → ((j y : ℕ) → j < used m → In y (walk (unfolded m levels j)) → y < used m) → x < used m
+      go : (e : Expression) → expressionAt m i ≡ e → In x (walk (Rattle.layout.specs.Tree.treeOver i e (unfolded m levels))) → ((j y : ℕ) → j < used m → In y (walk (unfolded m levels j)) → y < used m) → x < used m
       go (Base w) e (inl q) rest = rw q l
       go (Base w) e (inr q) rest = absurd q
       go (Extension w) e (inl q) rest = rw q l

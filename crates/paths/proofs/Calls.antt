@@ -8,15 +8,15 @@ use native.Mathlib.Numerals.{add-one}
 use lib.Dec.{ltb}
 use lib.ListN.{length, set, take, replicate, length-replicate}
 use borrow.Author.Tests.{lt-ltb, le-ltb, ltb-false}
-use Rattle.circuit.specs.Lists.{if_then_else_, upTo, any, each, written}
-use Rattle.circuit.specs.Words.{used, offset}
-use Rattle.circuit.specs.NotCircuit.{notCircuit, badId}
-use Rattle.circuit.specs.Outcomes.{refusal, outcome}
-use Rattle.circuit.specs.Answers.{accepted, refused}
+use Rattle.layout.specs.Lists.{if_then_else_, upTo, any, each, written}
+use Rattle.layout.specs.Words.{used, offset}
+use Rattle.layout.specs.NotCircuit.{notCircuit, badId}
+use Rattle.layout.specs.Outcomes.{refusal, outcome}
+use Rattle.layout.specs.Answers.{accepted, refused}
 use Rattle.circuit.specs.Rank.{at}
-use Rattle.circuit.proofs.Tests.{or-false, or-right, any-at}
-use Rattle.circuit.proofs.Lists.{or-left}
-use Rattle.circuit.proofs.Refusals.{refusal-none, refusal-here, refusal-next, outcome-accepted, outcome-refused, no-bad-id, bad-id-next}
+use Rattle.layout.proofs.Tests.{or-false, or-right, any-at}
+use Rattle.layout.proofs.Lists.{or-left}
+use Rattle.layout.proofs.Refusals.{refusal-none, refusal-here, refusal-next, outcome-accepted, outcome-refused, no-bad-id, bad-id-next}
 use Rattle.walking.specs.Paths.{walks, paths, countsUnder}
 use Rattle.walking.specs.Refusals.{overPaths, noRoom, repeated}
 use Rattle.walking.specs.Calls.{walkCall, counted, countCall, countsCall}

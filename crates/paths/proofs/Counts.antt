@@ -11,11 +11,11 @@ use lib.Seq.{getD-set-same, getD-set-other, take-suc, take-length}
 use borrow.Author.Tests.{eqb-true, eqb-false, ltb-true, ltb-false, lt-ltb, le-ltb}
 use Rattle.circuit.specs.declared.check.Step.{Step}
 use Rattle.circuit.specs.declared.check.Step.the-variants.{Stay, Two}
-use Rattle.circuit.specs.Lists.{count}
-use Rattle.circuit.specs.Words.{used}
-use Rattle.circuit.specs.NotCircuit.{notCircuit, badId}
+use Rattle.layout.specs.Lists.{count}
+use Rattle.layout.specs.Words.{used}
+use Rattle.layout.specs.NotCircuit.{notCircuit, badId}
 use Rattle.circuit.specs.Rank.{at, Sorted}
-use Rattle.circuit.proofs.Valid.{valid-room, limit-top}
+use Rattle.layout.proofs.Valid.{valid-room, limit-top}
 use Rattle.walking.specs.Paths.{paths}
 use Rattle.paths.specs.Counting.{over, PathCounts, Seeded, added, gave}
 use Rattle.paths.proofs.Sums.{sum-none, sum-start, sum-more}

@@ -9,12 +9,12 @@ use native.Mathlib.Numerals.{add-one}
 use lib.Dec.{ltb}
 use lib.ListN.{length, take}
 use borrow.Author.Tests.{lt-ltb, le-ltb, ltb-true}
-use Rattle.circuit.specs.Lists.{if_then_else_, upTo, In, each, insert}
-use Rattle.circuit.specs.Words.{used, nodeAt}
-use Rattle.circuit.specs.NotCircuit.{notCircuit, badId}
-use Rattle.circuit.specs.Tree.{tree}
+use Rattle.layout.specs.Lists.{if_then_else_, upTo, In, each, insert}
+use Rattle.layout.specs.Words.{used, nodeAt}
+use Rattle.layout.specs.NotCircuit.{notCircuit, badId}
+use Rattle.layout.specs.Tree.{tree}
 use Rattle.circuit.specs.Rank.{at}
-use Rattle.circuit.proofs.Tests.{below-or}
+use Rattle.layout.proofs.Tests.{below-or}
 use Rattle.walking.specs.Paths.{walk, walks, paths, countsUnder}
 use Rattle.paths.specs.Counting.{PathCounts}
 use Rattle.paths.specs.Rising.{Words, gathered}

@@ -10,7 +10,7 @@ use lib.Dec.{ltb, eqb}
 use lib.ListN.{length, set, take, drop, length-append, length-drop, length-set}
 use lib.Seq.{sets, sets-eq, length-take-le, drop-cons, drop-length, take-at, take-suc, take-take, getD-take, getD-set-other}
 use borrow.Author.Tests.{lt-ltb, le-ltb, eq-eqb, ne-eqb, ltb-true, ltb-false, eqb-true, eqb-false}
-use Rattle.circuit.specs.Lists.{if_then_else_, In, insert, written}
+use Rattle.layout.specs.Lists.{if_then_else_, In, insert, written}
 use Rattle.circuit.specs.Rank.{at}
 use Rattle.paths.specs.Rising.{Placed, Words}
 use Rattle.paths.proofs.Written.{written-more}

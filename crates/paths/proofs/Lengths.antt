@@ -9,11 +9,11 @@ use native.Mathlib.Numerals.{add-one}
 use lib.ListN.{length, set, take, length-append}
 use lib.Seq.{take-suc, take-length, getD-set-same, getD-set-other}
 use Rattle.circuit.specs.declared.check.Step.the-variants.{Stay, Two}
-use Rattle.circuit.specs.Words.{used}
-use Rattle.circuit.specs.NotCircuit.{notCircuit}
-use Rattle.circuit.specs.Tree.{tree}
+use Rattle.layout.specs.Words.{used}
+use Rattle.layout.specs.NotCircuit.{notCircuit}
+use Rattle.layout.specs.Tree.{tree}
 use Rattle.circuit.specs.Rank.{at, Sorted}
-use Rattle.circuit.proofs.Tests.{last-or}
+use Rattle.layout.proofs.Tests.{last-or}
 use Rattle.walking.specs.Paths.{walk, walks}
 use Rattle.paths.specs.Walking.{Sizes}
 use Rattle.paths.proofs.Walks.{step, step-below, walk-step}

@@ -8,19 +8,19 @@ use native.Mathlib.Omega.{arith}
 use native.Mathlib.Numerals.{add-one}
 use lib.ListN.{length, set, drop, length-set, length-append}
 use lib.Seq.{sets, drop-cons, drop-set-lt, drop-length, getD-set-same, getD-set-other}
-use Rattle.circuit.specs.declared.node.Expression.{Expression}
-use Rattle.circuit.specs.declared.node.Expression.the-variants.{Base, Extension, Challenge, Operation, Input}
+use Rattle.layout.specs.declared.node.Expression.{Expression}
+use Rattle.layout.specs.declared.node.Expression.the-variants.{Base, Extension, Challenge, Operation, Input}
 use Rattle.circuit.specs.declared.check.Step.{Step}
 use Rattle.circuit.specs.declared.check.Step.the-variants.{Stay, Two}
-use Rattle.circuit.specs.Words.{used, expressionAt}
-use Rattle.circuit.specs.NotCircuit.{notCircuit, goesOn}
-use Rattle.circuit.specs.Tree.{Tree, treeOver, unfolded, tree}
+use Rattle.layout.specs.Words.{used, expressionAt}
+use Rattle.layout.specs.NotCircuit.{notCircuit, goesOn}
+use Rattle.layout.specs.Tree.{Tree, treeOver, unfolded, tree}
 use Rattle.circuit.specs.Walk.{stepOf}
 use Rattle.circuit.specs.Rank.{at}
-use Rattle.circuit.proofs.Tests.{neither, last-or}
-use Rattle.circuit.proofs.Lists.{clash}
-use Rattle.circuit.proofs.Trees.{tree-fixed}
-use Rattle.circuit.proofs.Valid.{valid-ends}
+use Rattle.layout.proofs.Tests.{neither, last-or}
+use Rattle.layout.proofs.Lists.{clash}
+use Rattle.layout.proofs.Trees.{tree-fixed}
+use Rattle.layout.proofs.Valid.{valid-ends}
 use Rattle.walking.specs.Paths.{walk, walks}
 use Rattle.paths.specs.Walking.{height, rightWalk, pending, Level, Stacked, Descending, Descended, Walking, Walked, WalkingAll}
 use Rattle.paths.proofs.Walks.{step, step-below, walk-step, roots-below}
@@ -46,7 +46,7 @@ unfolding goesOn unfolded height
 levels-bound m zero i g = clash true refl g
 levels-bound m (suc levels) i g = go (expressionAt m i) g (levels-bound m levels)
   where
-    go : (e : Expression) → Rattle.circuit.specs.NotCircuit.eitherOperand (goesOn m levels) e ≡ false → ((j : ℕ) → goesOn m levels j ≡ false → height (unfolded m levels j) ≤ levels) → height (treeOver i e (unfolded m levels)) ≤ suc levels
+    go : (e : Expression) → Rattle.layout.specs.NotCircuit.eitherOperand (goesOn m levels) e ≡ false → ((j : ℕ) → goesOn m levels j ≡ false → height (unfolded m levels j) ≤ levels) → height (treeOver i e (unfolded m levels)) ≤ suc levels
     go (Base w) h rest = omega arith
     go (Extension w) h rest = omega arith
     go (Challenge w) h rest = omega arith
@@ -55,8 +55,8 @@ levels-bound m (suc levels) i g = go (expressionAt m i) g (levels-bound m levels
 
 height-some : (t : Tree) → 1 ≤ height t
 unfolding height
-height-some (Rattle.circuit.specs.Tree.leaf i a) = omega arith
-height-some (Rattle.circuit.specs.Tree.branch i o l r) = omega arith
+height-some (Rattle.layout.specs.Tree.leaf i a) = omega arith
+height-some (Rattle.layout.specs.Tree.branch i o l r) = omega arith
 
 module _ (m : List ℕ) (valid : notCircuit m ≡ false) where
   -- a root stands at the bottom of the stack

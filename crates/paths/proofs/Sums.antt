@@ -3,7 +3,7 @@ use Prim.Native.Nat.{ℕ, zero, suc, _+_, _<_}
 use mathlib.Core.Path.{_≡_, refl}
 use mathlib.Core.Logic.{⊎-elim, _≢_}
 use native.Mathlib.Omega.{arith}
-use Rattle.circuit.proofs.Tests.{last-or}
+use Rattle.layout.proofs.Tests.{last-or}
 
 unfoldable pub sum : (ℕ → ℕ) → ℕ → ℕ
 sum f zero = 0

@@ -4,7 +4,7 @@ use Prim.Native.Nat.{ℕ}
 use mathlib.Core.Path.{_≡_, refl, sym, ap, _∙_}
 use mathlib.Core.Logic.{_≢_}
 use mathlib.Core.List.{List}
-use Rattle.circuit.proofs.Unique.{one-outcome, same-number, same-values, same-lent}
+use Rattle.layout.proofs.Unique.{one-outcome, same-number, same-values, same-lent}
 use Rattle.walking.specs.declared.Count.{Count}
 use Rattle.walking.specs.declared.Count.the-variants as count
 use Rattle.walking.specs.declared.Counted.{Counted}

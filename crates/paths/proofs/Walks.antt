@@ -8,21 +8,21 @@ use native.Mathlib.Omega.{arith}
 use lib.Dec.{eqb, leb}
 use lib.ListN.{length}
 use borrow.Author.Tests.{eq-eqb, ne-eqb, le-leb, lt-leb, leb-false}
-use Rattle.circuit.specs.declared.node.Op.{Op}
-use Rattle.circuit.specs.declared.node.Expression.{Expression}
-use Rattle.circuit.specs.declared.node.Expression.the-variants.{Base, Extension, Challenge, Operation, Input}
+use Rattle.layout.specs.declared.node.Op.{Op}
+use Rattle.layout.specs.declared.node.Expression.{Expression}
+use Rattle.layout.specs.declared.node.Expression.the-variants.{Base, Extension, Challenge, Operation, Input}
 use Rattle.circuit.specs.declared.check.Step.{Step}
 use Rattle.circuit.specs.declared.check.Step.the-variants.{Stay, Two}
-use Rattle.circuit.specs.Lists.{if_then_else_, count, any}
-use Rattle.circuit.specs.Words.{used, expressionAt}
-use Rattle.circuit.specs.NotCircuit.{notCircuit, badId}
-use Rattle.circuit.specs.Tree.{Tree, treeOver, tree}
+use Rattle.layout.specs.Lists.{if_then_else_, count, any}
+use Rattle.layout.specs.Words.{used, expressionAt}
+use Rattle.layout.specs.NotCircuit.{notCircuit, badId}
+use Rattle.layout.specs.Tree.{Tree, treeOver, tree}
 use Rattle.circuit.specs.Walk.{stepOf}
 use Rattle.circuit.specs.Rank.{at}
-use Rattle.circuit.proofs.Trees.{tree-fixed}
-use Rattle.circuit.proofs.Valid.{valid-operands}
-use Rattle.circuit.proofs.Tests.{neither, or-false, or-right}
-use Rattle.circuit.proofs.Lists.{or-left}
+use Rattle.layout.proofs.Trees.{tree-fixed}
+use Rattle.layout.proofs.Valid.{valid-operands}
+use Rattle.layout.proofs.Tests.{neither, or-false, or-right}
+use Rattle.layout.proofs.Lists.{or-left}
 use Rattle.walking.specs.Paths.{walk, walks, paths}
 
 -- v if j is x

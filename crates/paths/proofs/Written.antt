@@ -7,7 +7,7 @@ use native.Mathlib.Numerals.{add-one}
 use native.Mathlib.Omega.{arith}
 use lib.ListN.{length, getD, set, drop, replicate, length-append, length-replicate, getD-replicate, replicate-append-replicate, List·getD-append}
 use lib.Seq.{sets, sets-eq, drop-cons, set-append-seam}
-use Rattle.circuit.specs.Lists.{written}
+use Rattle.layout.specs.Lists.{written}
 use Rattle.circuit.specs.Rank.{at}
 
 pub written-none : (l : List ℕ) → written [] l ≡ l

@@ -6,9 +6,9 @@ use mathlib.Core.List.{List}
 use lib.ListN.{length, set, take}
 use Rattle.circuit.specs.declared.check.Step.{Step}
 use Rattle.circuit.specs.declared.check.Step.the-variants.{Stay, Two}
-use Rattle.circuit.specs.Lists.{count}
-use Rattle.circuit.specs.Words.{used}
-use Rattle.circuit.specs.NotCircuit.{notCircuit, badId}
+use Rattle.layout.specs.Lists.{count}
+use Rattle.layout.specs.Words.{used}
+use Rattle.layout.specs.NotCircuit.{notCircuit, badId}
 use Rattle.circuit.specs.Rank.{at, Sorted}
 use Rattle.walking.specs.Paths.{paths}
 

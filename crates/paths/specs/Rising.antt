@@ -5,9 +5,9 @@ use mathlib.Core.Bool.{false}
 use mathlib.Core.List.{List, []}
 use lib.ListN.{length, set, take}
 use lib.Dec.{ltb}
-use Rattle.circuit.specs.Lists.{if_then_else_, upTo, each, insert}
-use Rattle.circuit.specs.Words.{used, offset, nodeAt}
-use Rattle.circuit.specs.NotCircuit.{notCircuit}
+use Rattle.layout.specs.Lists.{if_then_else_, upTo, each, insert}
+use Rattle.layout.specs.Words.{used, offset, nodeAt}
+use Rattle.layout.specs.NotCircuit.{notCircuit}
 use Rattle.circuit.specs.Rank.{at}
 
 -- a circuit, and a count for each node

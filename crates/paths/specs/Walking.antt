@@ -7,9 +7,9 @@ use lib.ListN.{length, drop}
 use lib.Seq.{sets}
 use Rattle.circuit.specs.declared.check.Step.{Step}
 use Rattle.circuit.specs.declared.check.Step.the-variants.{Stay, Two}
-use Rattle.circuit.specs.Words.{used, expressionAt}
-use Rattle.circuit.specs.NotCircuit.{notCircuit, badId}
-use Rattle.circuit.specs.Tree.{Tree, leaf, branch, tree}
+use Rattle.layout.specs.Words.{used, expressionAt}
+use Rattle.layout.specs.NotCircuit.{notCircuit, badId}
+use Rattle.layout.specs.Tree.{Tree, leaf, branch, tree}
 use Rattle.circuit.specs.Walk.{stepOf}
 use Rattle.circuit.specs.Rank.{at, Sorted}
 use Rattle.walking.specs.Paths.{walk, walks}

@@ -1,33 +1,17 @@
 // Path counts: from the top down, each node gives its own to both operands. So each id is looked at once, however many paths there are.
 use circuit::check::Step;
-use circuit::node::Expression;
-use circuit::place::expression_at;
+use circuit::check::step_at;
 ghost use mathlib.Core.Path.{_≡_};
 ghost use Prim.Native.Nat.{_+_, _<_, _≤_};
 ghost use lib.ListN.{length, replicate};
-ghost use Rattle.circuit.specs.Lists.{written};
-ghost use Rattle.circuit.specs.Words.{offset, expressionAt};
+ghost use Rattle.layout.specs.Lists.{written};
+ghost use Rattle.layout.specs.Words.{expressionAt};
 ghost use Rattle.circuit.specs.Walk.{stepOf};
 ghost use Rattle.circuit.specs.Rank.{at};
 ghost use Rattle.paths.specs.Counting.{over, Countable, PathCounts, Seedable, Seeded, added, Giving, gave};
 
 // One above the bound of path counts.
 pub const OVER: u64 = 4294967296;
-
-// The operands of node i, if it is an operation.
-pub fn step_at(m: &[u64], i: u64) -> Step
-    requires { ⌜ offset i + 6 ≤ length (now m) ⌝ }
-    ensures { λ r. ⌜ r ≡ stepOf (expressionAt (now (m .entry)) i) ⌝ }
-{
-    let e = expression_at(m, i);
-    match e {
-        Expression::Base(_) => Step::Stay,
-        Expression::Extension(_) => Step::Stay,
-        Expression::Challenge(_) => Step::Stay,
-        Expression::Operation(_, l, r) => Step::Two(l, r),
-        Expression::Input(_) => Step::Stay,
-    }
-}
 
 // Saturates: a sum above the bound stays one above it, and nothing wraps.
 fn add_at(counts: &mut [u64], i: u64, c: u64)
@@ -61,7 +45,7 @@ fn give(m: &[u64], counts: &mut [u64], i: u64)
 }
 
 // The first n words are zero; the others stay.
-pub fn clear(counts: &mut [u64], n: u64)
+pub(crate) fn clear(counts: &mut [u64], n: u64)
     requires { ⌜ n ≤ length (now counts) ⌝ }
     ensures { λ r. ⌜ now (counts .exit) ≡ written (replicate n 0) (now (counts .entry)) ⌝ }
 {

@@ -2,7 +2,7 @@
 ghost use mathlib.Core.Path.{_≡_};
 ghost use Prim.Native.Nat.{_≤_};
 ghost use lib.ListN.{length};
-ghost use Rattle.circuit.specs.NotCircuit.{badId};
+ghost use Rattle.layout.specs.NotCircuit.{badId};
 
 // Whether some id is not below the used count.
 pub fn bad_id(m: &[u64], ids: &[u64]) -> bool

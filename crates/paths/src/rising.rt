@@ -4,7 +4,7 @@ ghost use mathlib.Core.List.{_∷_};
 ghost use Prim.Native.Nat.{_<_, _≤_};
 ghost use lib.ListN.{length, take, drop};
 ghost use lib.Seq.{sets};
-ghost use Rattle.circuit.specs.Lists.{insert, written};
+ghost use Rattle.layout.specs.Lists.{insert, written};
 ghost use Rattle.paths.specs.Rising.{Placed, Words};
 
 // Where v belongs among the first n words.
@@ -42,7 +42,7 @@ fn move_up(words: &mut [u64], n: u64, k: u64, v: u64)
 }
 
 // Inserts v, unless it is there: how many words there are then.
-pub fn insert_word(words: &mut [u64], n: u64, v: u64) -> u64
+pub(crate) fn insert_word(words: &mut [u64], n: u64, v: u64) -> u64
     requires { ⌜ n < length (now words) ⌝ }
     ensures { λ r. ⌜ Words (now (words .exit)) (insert v (take n (now (words .entry)))) r ⌝ }
 {
@@ -58,7 +58,7 @@ pub fn insert_word(words: &mut [u64], n: u64, v: u64) -> u64
 }
 
 // Copies the first n words; places beyond aren't written.
-pub fn copy_words(words: &[u64], list: &mut [u64], n: u64)
+pub(crate) fn copy_words(words: &[u64], list: &mut [u64], n: u64)
     requires { ⌜ (n ≤ length (now words)) × (n ≤ length (now list)) ⌝ }
     ensures { λ r. ⌜ now (list .exit) ≡ written (take n (now (words .entry))) (now (list .entry)) ⌝ }
 {

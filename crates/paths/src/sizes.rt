@@ -1,11 +1,11 @@
 // How long walks are: tree sizes, each from the operands' own, in rank order. They saturate at a top that the caller sets one above what matters,
 // so that a walk too long for any memory is refused at once.
-use crate::counting::step_at;
 use circuit::check::Step;
+use circuit::check::step_at;
 ghost use mathlib.Core.Path.{_≡_};
 ghost use Prim.Native.Nat.{min};
 ghost use lib.ListN.{length};
-ghost use Rattle.circuit.specs.Tree.{tree};
+ghost use Rattle.layout.specs.Tree.{tree};
 ghost use Rattle.walking.specs.Paths.{walk, walks};
 ghost use Rattle.paths.specs.Walking.{Sizes, Sizable, Sizing, Summing, Measuring};
 
@@ -65,7 +65,7 @@ fn sum_sizes(m: &[u64], roots: &[u64], sizes: &[u64], top: u64) -> u64
 }
 
 // The length of the walks from the roots, or the top if that is less.
-pub fn walk_length(m: &[u64], order: &[u64], rank: &[u64], roots: &[u64], top: u64) -> u64
+pub(crate) fn walk_length(m: &[u64], order: &[u64], rank: &[u64], roots: &[u64], top: u64) -> u64
     requires { ⌜ Measuring (now m) (now order) (now rank) (now roots) top ⌝ }
     ensures { λ r. ⌜ r ≡ min top (length (walks (now (m .entry)) (now (roots .entry)))) ⌝ }
 {

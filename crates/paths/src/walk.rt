@@ -1,17 +1,17 @@
 // The in-order walk: left subtree, node, right subtree, repeated along each path. The lent stack holds the nodes whose left subtree is being walked.
 use crate::counting::clear;
-use crate::counting::step_at;
 use crate::ids::bad_id;
 use crate::sizes::walk_length;
 use circuit::check::Step;
 use circuit::check::check;
-use circuit::refusal::BAD_ID;
-use circuit::refusal::NO_ROOM;
-use circuit::refusal::NOT_CIRCUIT;
+use circuit::check::step_at;
+use layout::refusal::BAD_ID;
+use layout::refusal::NO_ROOM;
+use layout::refusal::NOT_CIRCUIT;
 use walking::Count;
 ghost use mathlib.Core.Path.{_≡_};
-ghost use Rattle.circuit.specs.Words.{expressionAt};
-ghost use Rattle.circuit.specs.Tree.{tree};
+ghost use Rattle.layout.specs.Words.{expressionAt};
+ghost use Rattle.layout.specs.Tree.{tree};
 ghost use Rattle.circuit.specs.Walk.{stepOf};
 ghost use Rattle.walking.specs.Paths.{walks};
 ghost use Rattle.walking.specs.Calls.{walkCall};

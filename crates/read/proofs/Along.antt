@@ -6,12 +6,12 @@ use mathlib.Core.List.{List}
 use native.Mathlib.Omega.{arith}
 use lib.ListN.{length, set, length-set}
 use lib.Seq.{getD-set-same, getD-set-other}
-use Rattle.circuit.specs.declared.node.Op.{Op}
-use Rattle.circuit.specs.declared.node.Expression.the-variants.{Operation}
-use Rattle.circuit.specs.Words.{used, expressionAt}
-use Rattle.circuit.specs.NotCircuit.{notCircuit}
+use Rattle.layout.specs.declared.node.Op.{Op}
+use Rattle.layout.specs.declared.node.Expression.the-variants.{Operation}
+use Rattle.layout.specs.Words.{used, expressionAt}
+use Rattle.layout.specs.NotCircuit.{notCircuit}
 use Rattle.circuit.specs.Rank.{at}
-use Rattle.circuit.proofs.Valid.{valid-operands}
+use Rattle.layout.proofs.Valid.{valid-operands}
 use Rattle.read.specs.declared.step.Step.the-variants.{Stay, Two}
 use Rattle.reading.specs.Readings.{leafDegree⁺, degree⁺}
 use Rattle.read.specs.Tables.{unknown, operandsOf, Filled}

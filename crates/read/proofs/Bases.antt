@@ -4,10 +4,10 @@ use mathlib.Core.Path.{_≡_, refl}
 use mathlib.Core.Bool.{Bool, true, false, _&&_}
 use mathlib.Core.List.{List}
 use lib.Dec.{eqb}
-use Rattle.circuit.specs.Lists.{bit}
-use Rattle.circuit.specs.Words.{used}
-use Rattle.circuit.specs.Tree.{tree}
-use Rattle.circuit.specs.NotCircuit.{notCircuit}
+use Rattle.layout.specs.Lists.{bit}
+use Rattle.layout.specs.Words.{used}
+use Rattle.layout.specs.Tree.{tree}
+use Rattle.layout.specs.NotCircuit.{notCircuit}
 use Rattle.reading.specs.Readings.{leafIsBase, isBase}
 use Rattle.read.specs.Tables.{unknown, Filled, Right, itself}
 use Rattle.read.specs.Bases.{baseBit, baseEntry, baseStart, baseJoin}

@@ -7,13 +7,13 @@ use mathlib.Core.List.{List}
 use native.Mathlib.Omega.{arith}
 use lib.IntN.{pos}
 use lib.Dec.{eqb}
-use Rattle.field.specs.Extension.{lift, sameTriple}
-use Rattle.circuit.specs.declared.node.Op.{Op}
-use Rattle.circuit.specs.declared.node.Op.the-variants.{Add, Multiply}
-use Rattle.circuit.specs.NotCircuit.{notCircuit}
-use Rattle.circuit.specs.Words.{used, expressionAt}
-use Rattle.circuit.specs.Lists.{if_then_else_}
-use Rattle.circuit.specs.Tree.{Leaf, baseLeaf, extensionLeaf, challengeLeaf, inputLeaf, Tree, branch}
+use Rattle.arithmetic.specs.Extension.{lift, sameTriple}
+use Rattle.layout.specs.declared.node.Op.{Op}
+use Rattle.layout.specs.declared.node.Op.the-variants.{Add, Multiply}
+use Rattle.layout.specs.NotCircuit.{notCircuit}
+use Rattle.layout.specs.Words.{used, expressionAt}
+use Rattle.layout.specs.Lists.{if_then_else_}
+use Rattle.layout.specs.Tree.{Leaf, baseLeaf, extensionLeaf, challengeLeaf, inputLeaf, Tree, branch}
 use Rattle.reading.specs.Readings.{leafDegree⁺, productDegree⁺, degree⁺, signed}
 use Rattle.read.specs.Tables.{unknown, Filled, Right, itself}
 use Rattle.read.specs.Degrees.{top, degreeTo, degreeEntry, degreeOver, degreeJoin}

@@ -10,14 +10,14 @@ use lib.Dec.{ltb, eqb}
 use lib.ListN.{length, getD, drop}
 use lib.Seq.{drop-cons, drop-length}
 use borrow.Author.Tests.{lt-ltb, le-ltb, eq-eqb, ne-eqb}
-use Rattle.circuit.specs.Lists.{In, any, upTo}
-use Rattle.circuit.specs.Words.{used}
-use Rattle.circuit.specs.Tree.{tree}
-use Rattle.circuit.specs.NotCircuit.{notCircuit, badId}
-use Rattle.circuit.specs.Calls.{reading}
+use Rattle.layout.specs.Lists.{In, any, upTo}
+use Rattle.layout.specs.Words.{used}
+use Rattle.layout.specs.Tree.{tree}
+use Rattle.layout.specs.NotCircuit.{notCircuit, badId}
+use Rattle.layout.specs.Calls.{reading}
 use Rattle.circuit.specs.Rank.{at}
-use Rattle.circuit.proofs.Tests.{below-or}
-use Rattle.circuit.proofs.Lists.{clash}
+use Rattle.layout.proofs.Tests.{below-or}
+use Rattle.layout.proofs.Lists.{clash}
 use Rattle.walking.specs.Paths.{walks, paths}
 use Rattle.paths.specs.Counting.{PathCounts}
 use Rattle.paths.proofs.Below.{any-in, any-walks, paths-in, root-below, walks-below}

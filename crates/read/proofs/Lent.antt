@@ -8,14 +8,14 @@ use native.Mathlib.Omega.{arith}
 use lib.Dec.{ltb, eqb}
 use lib.ListN.{length}
 use borrow.Author.Tests.{eqb-true, not-false}
-use Rattle.circuit.specs.declared.node.Position.the-variants.{Main, Aux, NextMain, NextAux}
-use Rattle.circuit.specs.declared.node.Expression.{Expression}
-use Rattle.circuit.specs.declared.node.Expression.the-variants.{Base, Extension, Challenge, Operation, Input}
-use Rattle.circuit.specs.Lists.{any, upTo}
-use Rattle.circuit.specs.Words.{rowKind, used, limit, expressionAt}
-use Rattle.circuit.specs.NotCircuit.{badHeader, notCircuit, badId}
-use Rattle.circuit.proofs.Tests.{neither, either}
-use Rattle.circuit.proofs.Valid.{valid-header}
+use Rattle.layout.specs.declared.node.Position.the-variants.{Main, Aux, NextMain, NextAux}
+use Rattle.layout.specs.declared.node.Expression.{Expression}
+use Rattle.layout.specs.declared.node.Expression.the-variants.{Base, Extension, Challenge, Operation, Input}
+use Rattle.layout.specs.Lists.{any, upTo}
+use Rattle.layout.specs.Words.{rowKind, used, limit, expressionAt}
+use Rattle.layout.specs.NotCircuit.{badHeader, notCircuit, badId}
+use Rattle.layout.proofs.Tests.{neither, either}
+use Rattle.layout.proofs.Valid.{valid-header}
 use Rattle.paths.specs.Counting.{PathCounts}
 use Rattle.paths.proofs.Below.{walks-one}
 use Rattle.reading.specs.Refusals.{columnsLent, readsBeyond, badTable}

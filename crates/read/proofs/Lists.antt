@@ -8,12 +8,12 @@ use native.Mathlib.Numerals.{add-one}
 use native.Mathlib.Omega.{arith}
 use lib.ListN.{length, getD, take}
 use lib.Seq.{take-suc, take-all}
-use Rattle.circuit.specs.Lists.{In, any, upTo}
-use Rattle.circuit.specs.Words.{used}
-use Rattle.circuit.specs.NotCircuit.{badId}
-use Rattle.circuit.proofs.Tests.{or-false, or-right, any-more}
-use Rattle.circuit.proofs.Lists.{or-left}
-use Rattle.circuit.proofs.Refusals.{no-bad-id, bad-id-next}
+use Rattle.layout.specs.Lists.{In, any, upTo}
+use Rattle.layout.specs.Words.{used}
+use Rattle.layout.specs.NotCircuit.{badId}
+use Rattle.layout.proofs.Tests.{or-false, or-right, any-more}
+use Rattle.layout.proofs.Lists.{or-left}
+use Rattle.layout.proofs.Refusals.{no-bad-id, bad-id-next}
 
 pub any-append : (p : ℕ → Bool) (xs ys : List ℕ) → any p (xs ++ ys) ≡ (any p xs || any p ys)
 unfolding any

@@ -10,13 +10,13 @@ use lib.Dec.{eqb}
 use lib.ListN.{length, set, replicate, length-map}
 use lib.Seq.{getD-set-same, getD-set-other}
 use borrow.Author.Tests.{eqb-true, eq-eqb, ne-eqb, lt-ltb, le-ltb}
-use Rattle.circuit.specs.Lists.{if_then_else_, In, any, distinct, upTo, bit}
-use Rattle.circuit.specs.Words.{used}
-use Rattle.circuit.specs.Tree.{tree, same}
-use Rattle.circuit.specs.NotCircuit.{notCircuit, badId}
+use Rattle.layout.specs.Lists.{if_then_else_, In, any, distinct, upTo, bit}
+use Rattle.layout.specs.Words.{used}
+use Rattle.layout.specs.Tree.{tree, same}
+use Rattle.layout.specs.NotCircuit.{notCircuit, badId}
 use Rattle.circuit.specs.Rank.{at}
-use Rattle.circuit.proofs.Tests.{or-right, same-or, any-more, any-start}
-use Rattle.circuit.proofs.Lists.{same-test}
+use Rattle.layout.proofs.Tests.{or-right, same-or, any-more, any-start}
+use Rattle.layout.proofs.Lists.{same-test}
 use Rattle.walking.specs.Paths.{walks}
 use Rattle.paths.specs.Counting.{PathCounts}
 use Rattle.paths.proofs.Below.{walks-below}

@@ -10,17 +10,17 @@ use borrow.Author.Tests.{eq-eqb}
 use borrow.Author.Count.{below-more}
 use lib.ListN.{length, set, length-set}
 use lib.Seq.{getD-set-same, getD-set-other}
-use Rattle.circuit.specs.declared.node.Op.{Op}
-use Rattle.circuit.specs.declared.node.Expression.{Expression}
-use Rattle.circuit.specs.declared.node.Expression.the-variants.{Base, Extension, Challenge, Operation, Input}
-use Rattle.circuit.specs.Lists.{if_then_else_}
-use Rattle.circuit.specs.Words.{used, offset, expressionAt}
-use Rattle.circuit.specs.Tree.{Leaf, baseLeaf, extensionLeaf, challengeLeaf, inputLeaf, Tree, leaf, branch, treeOver, tree}
-use Rattle.circuit.specs.NotCircuit.{notCircuit}
+use Rattle.layout.specs.declared.node.Op.{Op}
+use Rattle.layout.specs.declared.node.Expression.{Expression}
+use Rattle.layout.specs.declared.node.Expression.the-variants.{Base, Extension, Challenge, Operation, Input}
+use Rattle.layout.specs.Lists.{if_then_else_}
+use Rattle.layout.specs.Words.{used, offset, expressionAt}
+use Rattle.layout.specs.Tree.{Leaf, baseLeaf, extensionLeaf, challengeLeaf, inputLeaf, Tree, leaf, branch, treeOver, tree}
+use Rattle.layout.specs.NotCircuit.{notCircuit}
 use Rattle.circuit.specs.Rank.{at, Sorted}
-use Rattle.circuit.proofs.Tests.{same-or}
-use Rattle.circuit.proofs.Valid.{valid-fits, valid-operands}
-use Rattle.circuit.proofs.Trees.{tree-fixed}
+use Rattle.layout.proofs.Tests.{same-or}
+use Rattle.layout.proofs.Valid.{valid-fits, valid-operands}
+use Rattle.layout.proofs.Trees.{tree-fixed}
 use Rattle.read.specs.declared.step.Step.the-variants.{Stay, Two}
 use Rattle.read.specs.Tables.{unknown, operandsOf, stepAt, Ranked, leafEntry, Filled, Right, Told, Roomy, Asked, AllAsked, itself}
 

@@ -4,10 +4,10 @@ use Prim.Native.Nat.{ℕ}
 use mathlib.Core.Path.{_≡_, sym, ap}
 use mathlib.Core.Logic.{_≢_}
 use mathlib.Core.List.{List}
-use Rattle.circuit.specs.declared.calls.Counted.{Counted}
-use Rattle.circuit.specs.declared.calls.Counted.the-variants as counted
-use Rattle.circuit.specs.Answers.{toldCount}
-use Rattle.circuit.proofs.Unique.{one-outcome, same-number, same-values}
+use Rattle.layout.specs.declared.answer.Counted.{Counted}
+use Rattle.layout.specs.declared.answer.Counted.the-variants as counted
+use Rattle.layout.specs.Answers.{toldCount}
+use Rattle.layout.proofs.Unique.{one-outcome, same-number, same-values}
 use Rattle.reading.specs.declared.answer.Test.{Test}
 use Rattle.reading.specs.declared.answer.Test.the-variants as test
 use Rattle.reading.specs.declared.answer.Degree.{Degree}

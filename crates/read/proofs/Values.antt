@@ -7,13 +7,13 @@ use mathlib.Core.List.{List}
 use native.Mathlib.Omega.{arith}
 use lib.ListN.{length, getD, set, take, drop, length-set, length-drop}
 use lib.Seq.{take-all, getD-set-same, getD-set-other}
-use Rattle.field.specs.declared.extension.Triple.{Triple}
-use Rattle.field.specs.Extension.{lift}
-use Rattle.circuit.specs.declared.node.Position.{Position}
-use Rattle.circuit.specs.declared.node.Position.the-variants.{Main, Aux, NextMain, NextAux}
-use Rattle.circuit.specs.declared.node.Op.{Op}
-use Rattle.circuit.specs.Words.{used, apply}
-use Rattle.circuit.specs.NotCircuit.{notCircuit}
+use Rattle.arithmetic.specs.declared.Triple.{Triple}
+use Rattle.arithmetic.specs.Extension.{lift}
+use Rattle.layout.specs.declared.node.Position.{Position}
+use Rattle.layout.specs.declared.node.Position.the-variants.{Main, Aux, NextMain, NextAux}
+use Rattle.layout.specs.declared.node.Op.{Op}
+use Rattle.layout.specs.Words.{used, apply}
+use Rattle.layout.specs.NotCircuit.{notCircuit}
 use Rattle.read.specs.declared.step.Step.the-variants.{Two}
 use Rattle.reading.specs.Readings.{Assignment, inputValue, leafValue, value}
 use Rattle.reading.specs.Calls.{tripleAt, nextRow, assigned}

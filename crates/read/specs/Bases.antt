@@ -1,11 +1,11 @@
 -- Base tests in a table, as bits: 1 yes, 0 no. Assumes nothing.
 use Prim.Native.Nat.{ℕ, min}
 use mathlib.Core.List.{List}
-use Rattle.circuit.specs.declared.node.Op.{Op}
-use Rattle.circuit.specs.declared.node.Expression.{Expression}
-use Rattle.circuit.specs.Lists.{bit}
-use Rattle.circuit.specs.Words.{expressionAt}
-use Rattle.circuit.specs.Tree.{tree}
+use Rattle.layout.specs.declared.node.Op.{Op}
+use Rattle.layout.specs.declared.node.Expression.{Expression}
+use Rattle.layout.specs.Lists.{bit}
+use Rattle.layout.specs.Words.{expressionAt}
+use Rattle.layout.specs.Tree.{tree}
 use Rattle.reading.specs.Readings.{leafIsBase, isBase}
 use Rattle.read.specs.Tables.{unknown, leafEntry}
 

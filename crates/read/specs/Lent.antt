@@ -5,11 +5,11 @@ use mathlib.Core.Bool.{Bool, false, _&&_, not}
 use mathlib.Core.List.{List, [], _∷_}
 use lib.ListN.{length}
 use lib.Dec.{ltb, leb, eqb}
-use Rattle.circuit.specs.declared.node.Expression.{Expression}
-use Rattle.circuit.specs.declared.node.Expression.the-variants.{Base, Extension, Challenge, Operation, Input}
-use Rattle.circuit.specs.Lists.{if_then_else_}
-use Rattle.circuit.specs.Words.{rowKind, used, expressionAt, isMain, column}
-use Rattle.circuit.specs.NotCircuit.{notCircuit, badId}
+use Rattle.layout.specs.declared.node.Expression.{Expression}
+use Rattle.layout.specs.declared.node.Expression.the-variants.{Base, Extension, Challenge, Operation, Input}
+use Rattle.layout.specs.Lists.{if_then_else_}
+use Rattle.layout.specs.Words.{rowKind, used, expressionAt, isMain, column}
+use Rattle.layout.specs.NotCircuit.{notCircuit, badId}
 use Rattle.circuit.specs.Rank.{at}
 use Rattle.paths.specs.Counting.{PathCounts}
 use Rattle.read.specs.declared.table.Columns.{Columns}

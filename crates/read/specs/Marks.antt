@@ -5,9 +5,9 @@ use mathlib.Core.Bool.{Bool, false, _&&_}
 use mathlib.Core.List.{List}
 use lib.ListN.{length}
 use lib.Dec.{ltb, eqb}
-use Rattle.circuit.specs.Lists.{any, upTo, bit}
-use Rattle.circuit.specs.Words.{used}
-use Rattle.circuit.specs.NotCircuit.{notCircuit}
+use Rattle.layout.specs.Lists.{any, upTo, bit}
+use Rattle.layout.specs.Words.{used}
+use Rattle.layout.specs.NotCircuit.{notCircuit}
 use Rattle.circuit.specs.Rank.{at}
 
 -- node j has a path count, and class k

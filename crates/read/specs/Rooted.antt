@@ -4,7 +4,7 @@ use mathlib.Core.Path.{_≡_}
 use mathlib.Core.Bool.{false}
 use mathlib.Core.List.{List}
 use lib.ListN.{length}
-use Rattle.circuit.specs.NotCircuit.{notCircuit, badId}
+use Rattle.layout.specs.NotCircuit.{notCircuit, badId}
 use Rattle.circuit.specs.Rank.{Sorted}
 
 pub record Rooted (m order rank roots : List ℕ) : Type 0 where

@@ -2,11 +2,11 @@
 use Prim.Native.Nat.{ℕ, _+_, _*_, _<_, _≤_}
 use mathlib.Core.List.{List}
 use lib.ListN.{length, set}
-use Rattle.field.specs.declared.extension.Triple.{Triple}
-use Rattle.field.specs.Extension.{lift}
-use Rattle.circuit.specs.declared.node.Expression.{Expression}
-use Rattle.circuit.specs.Words.{used, expressionAt}
-use Rattle.circuit.specs.Tree.{tree}
+use Rattle.arithmetic.specs.declared.Triple.{Triple}
+use Rattle.arithmetic.specs.Extension.{lift}
+use Rattle.layout.specs.declared.node.Expression.{Expression}
+use Rattle.layout.specs.Words.{used, expressionAt}
+use Rattle.layout.specs.Tree.{tree}
 use Rattle.reading.specs.Readings.{Assignment, leafValue, value}
 use Rattle.read.specs.Tables.{unknown, leafEntry, Ranked}
 

@@ -3,18 +3,18 @@ use crate::step::Step;
 use crate::step::UNKNOWN;
 use crate::step::step_at;
 use circuit::check::check;
-use circuit::node::Expression;
-use circuit::node::Op;
-use circuit::node::Position;
 use circuit::place::expression_at;
-use circuit::refusal::BAD_ID;
-use circuit::refusal::NOT_CIRCUIT;
+use layout::node::Expression;
+use layout::node::Op;
+use layout::node::Position;
+use layout::refusal::BAD_ID;
+use layout::refusal::NOT_CIRCUIT;
 use reading::answer::Test;
 ghost use mathlib.Core.Path.{_≡_};
-ghost use Rattle.circuit.specs.Lists.{bit};
+ghost use Rattle.layout.specs.Lists.{bit};
 ghost use Prim.Native.Nat.{_<_};
-ghost use Rattle.circuit.specs.Words.{used, isMain};
-ghost use Rattle.circuit.specs.Tree.{tree};
+ghost use Rattle.layout.specs.Words.{used, isMain};
+ghost use Rattle.layout.specs.Tree.{tree};
 ghost use Rattle.circuit.specs.Rank.{at};
 ghost use Rattle.read.specs.Tables.{Filled, Right, Told, Roomy, Ranked, Asked, AllAsked, itself};
 ghost use Rattle.reading.specs.Readings.{isBase};
@@ -86,7 +86,7 @@ fn base_of(m: &[u64], rank: &[u64], table: &mut [u64], i: u64) -> u64
 }
 
 // The base test of each node, by ascending ids: in a grown circuit each node's operands are then known, and the stack stays flat.
-pub fn bases(m: &[u64], rank: &[u64], table: &mut [u64])
+pub(crate) fn bases(m: &[u64], rank: &[u64], table: &mut [u64])
     requires { ⌜ AllAsked 1 (now m) (now rank) (now table) ⌝ }
     ensures { λ r. ⌜ Filled (used (now (m .entry))) (at (now (table .exit))) (baseBit (now (m .entry))) ⌝ }
 {

@@ -4,13 +4,13 @@ use crate::step::UNKNOWN;
 use crate::step::operands_of;
 use crate::step::step_at;
 use circuit::check::check;
-use circuit::node::Expression;
-use circuit::node::Op;
 use circuit::place::expression_at;
-use circuit::refusal::BAD_ID;
-use circuit::refusal::DEGREE;
-use circuit::refusal::NOT_CIRCUIT;
 use field::extension;
+use layout::node::Expression;
+use layout::node::Op;
+use layout::refusal::BAD_ID;
+use layout::refusal::DEGREE;
+use layout::refusal::NOT_CIRCUIT;
 use paths::counting::count_paths;
 use paths::ids::bad_id;
 use reading::answer::Degree;
@@ -19,10 +19,10 @@ ghost use mathlib.Core.Bool.{_&&_};
 ghost use mathlib.Core.List.{map, foldr};
 ghost use lib.Dec.{ltb, eqb};
 ghost use Prim.Native.Nat.{_≤_, min, max};
-ghost use Rattle.circuit.specs.Words.{used};
+ghost use Rattle.layout.specs.Words.{used};
 ghost use Rattle.circuit.specs.Rank.{at};
 ghost use Rattle.read.specs.Tables.{Filled, Right, Told, Roomy, Asked, AllAsked, itself};
-ghost use Rattle.circuit.specs.Lists.{any, upTo};
+ghost use Rattle.layout.specs.Lists.{any, upTo};
 ghost use Rattle.reading.specs.Readings.{signed};
 ghost use Rattle.reading.specs.Calls.{degreeCall, highestCall};
 ghost use Rattle.reading.specs.Answers.{toldDegree};
@@ -117,7 +117,7 @@ fn degree_of(m: &[u64], rank: &[u64], table: &mut [u64], i: u64) -> u64
 }
 
 // The degree of each node, none higher than what is told apart; by ascending ids, so that in a grown circuit each node's operands are known.
-pub fn degrees(m: &[u64], rank: &[u64], table: &mut [u64])
+pub(crate) fn degrees(m: &[u64], rank: &[u64], table: &mut [u64])
     requires { ⌜ AllAsked 1 (now m) (now rank) (now table) ⌝ }
     ensures { λ r. ⌜ Filled (used (now (m .entry))) (at (now (table .exit))) (degreeTo (now (m .entry))) ⌝ }
 {

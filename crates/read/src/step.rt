@@ -1,11 +1,11 @@
 // What the recursions share: a table with an entry for each node, which holds the node's answer once it is known.
-use circuit::node::Expression;
-use circuit::node::Op;
 use circuit::place::expression_at;
+use layout::node::Expression;
+use layout::node::Op;
 ghost use mathlib.Core.Path.{_≡_};
 ghost use Prim.Native.Nat.{_+_, _≤_};
 ghost use lib.ListN.{length};
-ghost use Rattle.circuit.specs.Words.{offset, expressionAt};
+ghost use Rattle.layout.specs.Words.{offset, expressionAt};
 ghost use Rattle.read.specs.Tables.{operandsOf, stepAt};
 
 // No degree that is told apart, no bit and no element of a field.
@@ -18,7 +18,7 @@ pub enum Step {
 }
 
 // An operation's two operands.
-pub fn operands_of(e: Expression) -> Step
+pub(crate) fn operands_of(e: Expression) -> Step
     ensures { λ r. ⌜ r ≡ operandsOf e ⌝ }
 {
     match e {
@@ -31,7 +31,7 @@ pub fn operands_of(e: Expression) -> Step
 }
 
 // At node i, whose entry begins with the word w.
-pub fn step_at(m: &[u64], i: u64, w: u64) -> Step
+pub(crate) fn step_at(m: &[u64], i: u64, w: u64) -> Step
     requires { ⌜ offset i + 6 ≤ length (now m) ⌝ }
     ensures { λ r. ⌜ r ≡ stepAt (now (m .entry)) i w ⌝ }
 {

@@ -1,15 +1,15 @@
 // The lent tables of an evaluation: TABLE, a length not divisible as its layout needs, or a read beyond it; and BAD_WORD.
 use circuit::check::bad_word;
-use circuit::node::Expression;
-use circuit::node::Position;
 use circuit::place::expression_at;
+use layout::node::Expression;
+use layout::node::Position;
 ghost use mathlib.Core.Path.{_≡_};
 ghost use mathlib.Core.Bool.{false};
 ghost use mathlib.Core.List.{_++_};
 ghost use Prim.Native.Nat.{_<_};
-ghost use Rattle.circuit.specs.Lists.{any, upTo};
-ghost use Rattle.circuit.specs.Words.{used};
-ghost use Rattle.circuit.specs.NotCircuit.{notCircuit, badWord};
+ghost use Rattle.layout.specs.Lists.{any, upTo};
+ghost use Rattle.layout.specs.Words.{used};
+ghost use Rattle.layout.specs.NotCircuit.{notCircuit, badWord};
 ghost use Rattle.reading.specs.Refusals.{badTable};
 ghost use Rattle.read.specs.Lent.{columnsOf, uneven, beyond, beyondAt, Pathed, PathedFrom};
 
@@ -94,7 +94,7 @@ fn any_beyond(m: &[u64], counts: &[u64], c: Columns) -> bool
 }
 
 // A length not divisible as its layout needs, or a node below i that reads beyond the tables.
-pub fn bad_table(
+pub(crate) fn bad_table(
     m: &[u64],
     counts: &[u64],
     i: u64,
@@ -126,7 +126,7 @@ fn any_bad(ws: &[u64]) -> bool
 }
 
 // Every word of the three lists is a given word.
-pub fn bad_given(main: &[u64], aux: &[u64], challenges: &[u64]) -> bool
+pub(crate) fn bad_given(main: &[u64], aux: &[u64], challenges: &[u64]) -> bool
     ensures { λ r. ⌜ r ≡ any badWord (now (main .entry) ++ now (aux .entry) ++ now (challenges .entry)) ⌝ }
 {
     if any_bad(main) {

@@ -1,16 +1,16 @@
 // Visible nodes: structural classes below a list of roots, roots included. A loose node and an equal rebuilt one count once.
-use circuit::calls::Counted;
 use circuit::check::check;
-use circuit::refusal::BAD_ID;
-use circuit::refusal::NOT_CIRCUIT;
 use classes::find::classes;
+use layout::answer::Counted;
+use layout::refusal::BAD_ID;
+use layout::refusal::NOT_CIRCUIT;
 use paths::counting::count_paths;
 use paths::ids::bad_id;
 ghost use mathlib.Core.Path.{_≡_};
 ghost use Prim.Native.Nat.{_≤_};
 ghost use lib.ListN.{length};
-ghost use Rattle.circuit.specs.Words.{used};
-ghost use Rattle.circuit.specs.Answers.{toldCount};
+ghost use Rattle.layout.specs.Words.{used};
+ghost use Rattle.layout.specs.Answers.{toldCount};
 ghost use Rattle.reading.specs.Readings.{visible};
 ghost use Rattle.reading.specs.Calls.{visibleCall};
 ghost use Rattle.read.specs.Rooted.{Rooted};

@@ -1,5 +1,5 @@
 // A line's characters and numbers. Nothing stands beyond its end: a character there is 0, and so is a digit.
-use field::extension::Triple;
+use arithmetic::Triple;
 use frame::digits;
 ghost use mathlib.Core.Path.{_≡_};
 ghost use Prim.Native.Nat.{_≤_};

@@ -9,7 +9,7 @@ use lib.Seq.{sets, take-all, take-add, take-suc-set, length-take-le}
 use lib.Dec.{ltb, eqb}
 use borrow.Author.Tests.{lt-ltb, le-ltb, eq-eqb, ne-eqb}
 use borrow.Rule.Slice.PartMut.{midOf, putMid}
-use Rattle.circuit.specs.Lists.{if_then_else_}
+use Rattle.layout.specs.Lists.{if_then_else_}
 use Rattle.framing.specs.Digits.{hexadecimal}
 use Rattle.framing.specs.Requests.{requestOf}
 use Rattle.framing.specs.States.{State}

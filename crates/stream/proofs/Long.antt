@@ -9,8 +9,8 @@ use lib.ListN.{length, take}
 use lib.Seq.{take-all, length-take-le}
 use lib.Dec.{eqb}
 use borrow.Author.Tests.{ne-eqb}
-use Rattle.circuit.specs.declared.node.Op.the-variants.{Add, Multiply}
-use Rattle.circuit.specs.Lists.{if_then_else_, all}
+use Rattle.layout.specs.declared.node.Op.the-variants.{Add, Multiply}
+use Rattle.layout.specs.Lists.{if_then_else_, all}
 use Rattle.framing.specs.declared.Request.{Request}
 use Rattle.framing.specs.declared.Request.the-variants.{Start, Input, Challenge, Base, Extension, Operation, Subtract, Negate, Root, Lower, Nothing}
 use Rattle.framing.specs.Digits.{isDigit, bytesOf, numberAt}

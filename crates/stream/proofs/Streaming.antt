@@ -9,7 +9,7 @@ use lib.ListN.{length, getD, take, length-append, length-take}
 use lib.Seq.{take-all, take-suc, take-append-le, append-snoc}
 use lib.Dec.{ltb, eqb}
 use borrow.Author.Tests.{ltb-true, ltb-false}
-use Rattle.circuit.specs.Lists.{if_then_else_}
+use Rattle.layout.specs.Lists.{if_then_else_}
 use Rattle.framing.specs.States.{State, fresh}
 use Rattle.framing.specs.Frames.{Answered, lineAnswer, answerLine, begin, lines, answers, frames}
 use Rattle.stream.specs.Stream.{Stream, stream, Fed, keptWith, fedOne, fed, start, endedWith, ended}

@@ -4,7 +4,7 @@ use mathlib.Core.Path.{_≡_}
 use mathlib.Core.List.{List, [], _∷_, _++_}
 use lib.ListN.{length, take}
 use lib.Dec.{ltb, eqb}
-use Rattle.circuit.specs.Lists.{if_then_else_}
+use Rattle.layout.specs.Lists.{if_then_else_}
 use Rattle.framing.specs.States.{State, fresh}
 use Rattle.framing.specs.Frames.{lineAnswer, answerLine}
 use Rattle.frame.specs.Puts.{Put}

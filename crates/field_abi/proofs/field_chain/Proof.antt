@@ -2,7 +2,7 @@
 use borrow.Author.Needs.{needs}
 use mathlib.Core.Path.{refl}
 use Rattle.field_abi.proofs.Turns.{Turns, one-less, no-more}
-use Rattle.field.specs.Base.{multiply}
+use Rattle.arithmetic.specs.Base.{multiply}
 use Rattle.field_abi.specs.Chains.{wordChain}
 use Rattle.field_abi.proofs.field_chain.Statement.{statement}
 use Rattle.field_abi.proofs.field_chain.Tie as tie

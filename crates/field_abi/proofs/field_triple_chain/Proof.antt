@@ -2,8 +2,8 @@
 use borrow.Author.Needs.{needs}
 use mathlib.Core.Path.{refl, ap}
 use Rattle.field_abi.proofs.Turns.{Turns, one-less, no-more}
-use Rattle.field.specs.Extension.{triple, times}
-use Rattle.field.specs.declared.extension.Triple.{Triple}
+use Rattle.arithmetic.specs.Extension.{triple, times}
+use Rattle.arithmetic.specs.declared.Triple.{Triple}
 use Rattle.field_abi.specs.Chains.{tripleChain}
 use Rattle.field_abi.proofs.field_triple_chain.Statement.{statement}
 use Rattle.field_abi.proofs.field_triple_chain.Tie as tie

@@ -1,4 +1,4 @@
-use Rattle.circuit.specs.Words.{encode}
+use Rattle.layout.specs.Words.{encode}
 use mathlib.Core.Path.{refl}
 use borrow.Author.Needs.{needs}
 use Rattle.abi.proofs.answers.node.Statement.{statement}

@@ -1,4 +1,4 @@
-use Rattle.circuit.proofs.Refusals.{refusal-here, refusal-next, refusal-none, refuses, accepts}
+use Rattle.layout.proofs.Refusals.{refusal-here, refusal-next, refusal-none, refuses, accepts}
 use mathlib.Core.Path.{sym, _∙_}
 use borrow.Author.Needs.{needs}
 use Rattle.abi.proofs.circuits.atz_is_circuit.Statement.{statement}

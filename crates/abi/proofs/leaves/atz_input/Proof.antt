@@ -1,5 +1,5 @@
 use mathlib.Core.Path.{refl, ap, _∙_}
-use Rattle.circuit.proofs.Refusals.{refuses, accepts}
+use Rattle.layout.proofs.Refusals.{refuses, accepts}
 use Rattle.building.specs.Calls.{inputCall}
 use Rattle.abi.proofs.Passing.{handed-on, known-row, no-circuit, no-row}
 use borrow.Author.Needs.{needs}

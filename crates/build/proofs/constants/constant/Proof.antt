@@ -1,5 +1,5 @@
 use mathlib.Core.Path.{sym, _∙_}
-use Rattle.circuit.specs.Words.{constant}
+use Rattle.layout.specs.Words.{constant}
 use borrow.Author.Needs.{needs}
 use Rattle.build.proofs.constants.constant.Statement.{statement}
 use Rattle.build.proofs.constants.constant.Tie as tie

@@ -1,4 +1,4 @@
-use Rattle.circuit.proofs.Valid.{valid-header, header-top}
+use Rattle.layout.proofs.Valid.{valid-header, header-top}
 use Rattle.build.proofs.Saving.{fillable}
 use borrow.Author.Needs.{needs}
 use Rattle.build.proofs.several.class_anew.Statement.{statement}

@@ -2,7 +2,7 @@ use Prim.Native.Nat.{_-_, _*_}
 use mathlib.Core.Path.{_≡_, refl}
 use native.Mathlib.Omega.{arith}
 use lib.ListN.{length-set}
-use Rattle.circuit.specs.Words.{used, offset}
+use Rattle.layout.specs.Words.{used, offset}
 use Rattle.build.proofs.Saving.{Restoring, restore-start, restore-more, restore-end}
 use Rattle.build.proofs.several.restore.Statement.{statement}
 use Rattle.build.proofs.several.restore.Tie as tie

@@ -1,5 +1,5 @@
 use native.Mathlib.Omega.{arith}
-use Rattle.circuit.proofs.Valid.{valid-length, valid-room}
+use Rattle.layout.proofs.Valid.{valid-length, valid-room}
 use Rattle.build.proofs.Stepping.{told-at, told-full}
 use Rattle.build.proofs.Undoing.{classable, back-step, sum-fits}
 use borrow.Author.Needs.{needs}

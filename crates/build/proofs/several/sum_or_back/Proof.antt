@@ -1,4 +1,4 @@
-use Rattle.circuit.proofs.Valid.{valid-length, valid-room}
+use Rattle.layout.proofs.Valid.{valid-length, valid-room}
 use Rattle.build.proofs.Stepping.{told-at, told-full}
 use Rattle.build.proofs.Saving.{lent-used}
 use Rattle.build.proofs.Undoing.{kept-most, undoable, undone}

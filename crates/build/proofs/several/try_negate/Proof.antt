@@ -1,4 +1,4 @@
-use Rattle.circuit.proofs.Valid.{valid-room}
+use Rattle.layout.proofs.Valid.{valid-room}
 use Rattle.build.proofs.Stepping.{told-at, told-full}
 use Rattle.build.proofs.Runs.{minus-makable, negate-operable, negate-then, negate-stops}
 use borrow.Author.Needs.{needs}

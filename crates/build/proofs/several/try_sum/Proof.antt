@@ -3,7 +3,7 @@ use Prim.Native.Nat.{_-_}
 use mathlib.Core.Path.{_∙_}
 use native.Mathlib.Omega.{arith}
 use lib.ListN.{length}
-use Rattle.circuit.proofs.Valid.{valid-room}
+use Rattle.layout.proofs.Valid.{valid-room}
 use Rattle.build.proofs.Stepping.{told-at, told-full}
 use Rattle.build.proofs.Runs.{Summing, sum-start, sum-end, sum-operable, sum-next, sum-stops}
 use Rattle.build.proofs.several.try_sum.Statement.{statement}

@@ -1,4 +1,4 @@
-use Rattle.circuit.proofs.Valid.{valid-fits}
+use Rattle.layout.proofs.Valid.{valid-fits}
 use Rattle.build.proofs.Stepping.{constant-read, fold-makable, fold-two, fold-left, fold-right, step-of}
 use borrow.Author.Needs.{needs}
 use Rattle.build.proofs.steps.folding.Statement.{statement}

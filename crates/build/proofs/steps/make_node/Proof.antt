@@ -1,5 +1,5 @@
 use native.Mathlib.Omega.{arith}
-use Rattle.circuit.proofs.Valid.{valid-length, valid-header, header-top}
+use Rattle.layout.proofs.Valid.{valid-length, valid-header, header-top}
 use Rattle.build.proofs.Stepping.{no-place, joins, made-step}
 use borrow.Author.Needs.{needs}
 use Rattle.build.proofs.steps.make_node.Statement.{statement}

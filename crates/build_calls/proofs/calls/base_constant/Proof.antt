@@ -1,5 +1,5 @@
 use mathlib.Core.Path.{refl, sym, _∙_}
-use Rattle.circuit.proofs.Refusals.{refuses, refusal-here, refusal-next}
+use Rattle.layout.proofs.Refusals.{refuses, refusal-here, refusal-next}
 use Rattle.building.specs.Calls.{baseCall}
 use Rattle.build_calls.proofs.Endings.{no-circuit, refuses-by, only-full, checked}
 use borrow.Author.Needs.{needs}

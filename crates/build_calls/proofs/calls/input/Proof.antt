@@ -1,7 +1,7 @@
 use mathlib.Core.Path.{refl, sym, ap, _∙_}
-use Rattle.circuit.specs.NotCircuit.{badIndex}
-use Rattle.circuit.proofs.Refusals.{refuses, refusal-here, refusal-next}
-use Rattle.circuit.proofs.Valid.{valid-length}
+use Rattle.layout.specs.NotCircuit.{badIndex}
+use Rattle.layout.proofs.Refusals.{refuses, refusal-here, refusal-next}
+use Rattle.layout.proofs.Valid.{valid-length}
 use Rattle.building.specs.Calls.{inputCall}
 use Rattle.build_calls.proofs.Endings.{no-circuit, refuses-by, only-full, checked}
 use borrow.Author.Needs.{needs}

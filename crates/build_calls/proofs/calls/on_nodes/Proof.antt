@@ -1,6 +1,6 @@
 use mathlib.Core.Path.{sym, _∙_}
-use Rattle.circuit.proofs.Refusals.{refuses, refusal-here, refusal-next, bad-id-here, bad-id-next, no-bad-id}
-use Rattle.circuit.proofs.Valid.{valid-length}
+use Rattle.layout.proofs.Refusals.{refuses, refusal-here, refusal-next, bad-id-here, bad-id-next, no-bad-id}
+use Rattle.layout.proofs.Valid.{valid-length}
 use Rattle.build_calls.proofs.Endings.{no-circuit, refuses-by, only-full, checked, ranked}
 use borrow.Author.Needs.{needs}
 use Rattle.build_calls.proofs.calls.on_nodes.Statement.{statement}

@@ -1,8 +1,8 @@
 use mathlib.Core.Path.{sym, _∙_}
 use native.Mathlib.Omega.{arith}
 use borrow.Author.Tests.{eq-eqb, ne-eqb}
-use Rattle.circuit.proofs.Refusals.{refuses, refusal-here, refusal-next}
-use Rattle.circuit.proofs.Valid.{valid-length}
+use Rattle.layout.proofs.Refusals.{refuses, refusal-here, refusal-next}
+use Rattle.layout.proofs.Valid.{valid-length}
 use Rattle.building.specs.Calls.{sumCall}
 use Rattle.build_calls.proofs.Endings.{no-circuit, refuses-by, only-full, checked, ranked}
 use borrow.Author.Needs.{needs}

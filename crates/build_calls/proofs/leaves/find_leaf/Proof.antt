@@ -2,7 +2,7 @@ use Prim.Native.Nat.{_-_}
 use mathlib.Core.Path.{sym, _∙_}
 use native.Mathlib.Omega.{arith}
 use borrow.Author.Needs.{needs}
-use Rattle.circuit.proofs.Valid.{valid-length, valid-fits, valid-header, header-top}
+use Rattle.layout.proofs.Valid.{valid-length, valid-fits, valid-header, header-top}
 use Rattle.classes.specs.Table.{listed}
 use Rattle.build_calls.proofs.Wording.{NoneBefore, none-start, none-next, leaf-here, leaf-nowhere}
 use Rattle.build_calls.proofs.leaves.find_leaf.Statement.{statement}

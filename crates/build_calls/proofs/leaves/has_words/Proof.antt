@@ -1,5 +1,5 @@
 use mathlib.Core.Path.{sym, ap, _∙_}
-use Rattle.circuit.specs.Lists.{sameWords}
+use Rattle.layout.specs.Lists.{sameWords}
 use Rattle.classes.specs.Table.{listed}
 use Rattle.build_calls.proofs.Wording.{loose-not, words-here}
 use borrow.Author.Needs.{needs}

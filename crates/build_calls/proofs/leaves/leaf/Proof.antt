@@ -1,6 +1,6 @@
 use mathlib.Core.Path.{sym, ap, _∙_}
 use native.Mathlib.Omega.{arith}
-use Rattle.circuit.proofs.Valid.{valid-length}
+use Rattle.layout.proofs.Valid.{valid-length}
 use Rattle.build_calls.proofs.Wording.{leaf-at, leaf-full, leaf-made}
 use borrow.Author.Needs.{needs}
 use Rattle.build_calls.proofs.leaves.leaf.Statement.{statement}

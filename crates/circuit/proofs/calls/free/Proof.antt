@@ -1,9 +1,9 @@
 use mathlib.Core.Path.{sym}
 use mathlib.Core.List.{[]}
 use native.Mathlib.Omega.{arith}
-use Rattle.circuit.specs.Calls.{freeCall}
-use Rattle.circuit.proofs.Valid.{valid-length, valid-room}
-use Rattle.circuit.proofs.Refusals.{refuses, accepts, refusal-none, reading-no-circuit, reading-accepted, no-bad-id}
+use Rattle.layout.specs.Calls.{freeCall}
+use Rattle.layout.proofs.Valid.{valid-length, valid-room}
+use Rattle.layout.proofs.Refusals.{refuses, accepts, refusal-none, reading-no-circuit, reading-accepted, no-bad-id}
 use borrow.Author.Needs.{needs}
 use Rattle.circuit.proofs.calls.free.Statement.{statement}
 use Rattle.circuit.proofs.calls.free.Tie as tie

@@ -1,8 +1,8 @@
 use mathlib.Core.Path.{sym, _∙_}
 use mathlib.Core.List.{[], _∷_}
-use Rattle.circuit.specs.Calls.{readCall}
-use Rattle.circuit.proofs.Valid.{valid-length, valid-fits}
-use Rattle.circuit.proofs.Refusals.{refuses, accepts, refusal-none, reading-no-circuit, reading-bad-id, reading-accepted, no-bad-id, bad-id-here, bad-id-next}
+use Rattle.layout.specs.Calls.{readCall}
+use Rattle.layout.proofs.Valid.{valid-length, valid-fits}
+use Rattle.layout.proofs.Refusals.{refuses, accepts, refusal-none, reading-no-circuit, reading-bad-id, reading-accepted, no-bad-id, bad-id-here, bad-id-next}
 use borrow.Author.Needs.{needs}
 use Rattle.circuit.proofs.calls.read.Statement.{statement}
 use Rattle.circuit.proofs.calls.read.Tie as tie

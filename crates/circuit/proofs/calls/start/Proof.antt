@@ -1,7 +1,7 @@
 use borrow.Author.Tests.{lt-ltb, le-ltb}
 use mathlib.Core.Path.{sym, _∙_}
-use Rattle.circuit.specs.Calls.{startCall}
-use Rattle.circuit.proofs.Refusals.{refusal-here, refusal-next, refusal-none, outcome-refused, outcome-accepted}
+use Rattle.layout.specs.Calls.{startCall}
+use Rattle.layout.proofs.Refusals.{refusal-here, refusal-next, refusal-none, outcome-refused, outcome-accepted}
 use borrow.Author.Needs.{needs}
 use Rattle.circuit.proofs.calls.start.Statement.{statement}
 use Rattle.circuit.proofs.calls.start.Tie as tie

@@ -1,8 +1,8 @@
 use mathlib.Core.Path.{sym}
 use mathlib.Core.List.{[]}
-use Rattle.circuit.specs.Calls.{usedCall}
-use Rattle.circuit.proofs.Valid.{valid-length}
-use Rattle.circuit.proofs.Refusals.{refuses, accepts, refusal-none, reading-no-circuit, reading-accepted, no-bad-id}
+use Rattle.layout.specs.Calls.{usedCall}
+use Rattle.layout.proofs.Valid.{valid-length}
+use Rattle.layout.proofs.Refusals.{refuses, accepts, refusal-none, reading-no-circuit, reading-accepted, no-bad-id}
 use borrow.Author.Needs.{needs}
 use Rattle.circuit.proofs.calls.used.Statement.{statement}
 use Rattle.circuit.proofs.calls.used.Tie as tie

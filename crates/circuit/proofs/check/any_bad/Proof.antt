@@ -2,11 +2,11 @@ use Prim.Native.Nat.{ℕ, _≤_, _-_}
 use mathlib.Core.Path.{_≡_, sym, ap, _∙_}
 use mathlib.Core.Bool.{false}
 use native.Mathlib.Omega.{arith}
-use Rattle.circuit.specs.Lists.{any, upTo}
-use Rattle.circuit.specs.Words.{used}
-use Rattle.circuit.specs.NotCircuit.{badNode}
-use Rattle.circuit.proofs.Tests.{any-one, any-next, any-start}
-use Rattle.circuit.proofs.Valid.{header-room, header-fits, header-top}
+use Rattle.layout.specs.Lists.{any, upTo}
+use Rattle.layout.specs.Words.{used}
+use Rattle.layout.specs.NotCircuit.{badNode}
+use Rattle.layout.proofs.Tests.{any-one, any-next, any-start}
+use Rattle.layout.proofs.Valid.{header-room, header-fits, header-top}
 use Rattle.circuit.proofs.check.any_bad.Statement.{statement}
 use Rattle.circuit.proofs.check.any_bad.Tie as tie
 

@@ -1,6 +1,6 @@
 use mathlib.Core.Path.{sym, _∙_}
 use borrow.Author.Tests.{le-leb, lt-leb}
-use Rattle.circuit.specs.NotCircuit.{badExpression}
+use Rattle.layout.specs.NotCircuit.{badExpression}
 use borrow.Author.Needs.{needs}
 use Rattle.circuit.proofs.check.bad_expression.Statement.{statement}
 use Rattle.circuit.proofs.check.bad_expression.Tie as tie

@@ -2,7 +2,7 @@ use mathlib.Core.Logic.{⊎-elim}
 use borrow.Author.Tests.{lt-ltb, le-ltb, ne-eqb, eq-eqb}
 use native.Mathlib.Omega.{arith}
 use lib.ListN.{length, getD}
-use Rattle.circuit.specs.NotCircuit.{badHeader}
+use Rattle.layout.specs.NotCircuit.{badHeader}
 use borrow.Author.Needs.{needs}
 use Rattle.circuit.proofs.check.bad_header.Statement.{statement}
 use Rattle.circuit.proofs.check.bad_header.Tie as tie

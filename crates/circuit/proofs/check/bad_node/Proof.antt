@@ -1,5 +1,5 @@
 use borrow.Author.Tests.{lt-ltb, le-ltb}
-use Rattle.circuit.specs.NotCircuit.{badNode}
+use Rattle.layout.specs.NotCircuit.{badNode}
 use native.Mathlib.Nat.{add-zero}
 use borrow.Author.Needs.{needs}
 use Rattle.circuit.proofs.check.bad_node.Statement.{statement}

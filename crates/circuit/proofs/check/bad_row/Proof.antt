@@ -1,5 +1,5 @@
 use mathlib.Core.Path.{sym, _∙_}
-use Rattle.circuit.specs.NotCircuit.{badRow}
+use Rattle.layout.specs.NotCircuit.{badRow}
 use borrow.Author.Needs.{needs}
 use Rattle.circuit.proofs.check.bad_row.Statement.{statement}
 use Rattle.circuit.proofs.check.bad_row.Tie as tie

@@ -1,5 +1,5 @@
 use mathlib.Core.Path.{sym, _∙_}
-use Rattle.circuit.specs.NotCircuit.{badWords}
+use Rattle.layout.specs.NotCircuit.{badWords}
 use borrow.Author.Needs.{needs}
 use Rattle.circuit.proofs.check.bad_words.Statement.{statement}
 use Rattle.circuit.proofs.check.bad_words.Tie as tie

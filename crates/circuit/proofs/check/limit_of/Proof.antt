@@ -1,5 +1,5 @@
 use native.Mathlib.Omega.{arith}
-use Rattle.circuit.specs.Words.{limit}
+use Rattle.layout.specs.Words.{limit}
 use borrow.Author.Needs.{needs}
 use Rattle.circuit.proofs.check.limit_of.Statement.{statement}
 use Rattle.circuit.proofs.check.limit_of.Tie as tie

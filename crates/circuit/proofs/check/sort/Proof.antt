@@ -1,6 +1,6 @@
 use native.Mathlib.Omega.{arith}
 use borrow.Author.Tests.{not-true, not-false}
-use Rattle.circuit.proofs.Valid.{header-room, header-top}
+use Rattle.layout.proofs.Valid.{header-room, header-top}
 use Rattle.circuit.proofs.Orders.{ranked-placing, unordered, ordered}
 use borrow.Author.Needs.{needs}
 use Rattle.circuit.proofs.check.sort.Statement.{statement}

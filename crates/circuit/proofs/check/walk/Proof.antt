@@ -1,7 +1,7 @@
 use Prim.Native.Nat.{_-_}
 use native.Mathlib.Omega.{arith}
 use borrow.Author.Needs.{needs}
-use Rattle.circuit.proofs.Valid.{header-room, header-top}
+use Rattle.layout.proofs.Valid.{header-room, header-top}
 use Rattle.circuit.proofs.Visits.{able-kept, Ranking, ranking-start, ranking-visit, ranking-next, walk-fails, walk-done}
 use Rattle.circuit.proofs.check.walk.Statement.{statement}
 use Rattle.circuit.proofs.check.walk.Tie as tie

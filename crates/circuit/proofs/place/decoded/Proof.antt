@@ -1,5 +1,5 @@
 use borrow.Author.Tests.{ne-eqb}
-use Rattle.circuit.specs.Words.{decode}
+use Rattle.layout.specs.Words.{decode}
 use Rattle.circuit.proofs.place.decoded.Statement.{statement}
 use Rattle.circuit.proofs.place.decoded.Tie as tie
 

@@ -1,5 +1,5 @@
 use native.Mathlib.Nat.{add-zero}
-use Rattle.circuit.specs.Words.{nodeAt}
+use Rattle.layout.specs.Words.{nodeAt}
 use borrow.Author.Needs.{needs}
 use Rattle.circuit.proofs.place.expression_at.Statement.{statement}
 use Rattle.circuit.proofs.place.expression_at.Tie as tie

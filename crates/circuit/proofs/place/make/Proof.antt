@@ -1,5 +1,5 @@
 use native.Mathlib.Omega.{arith}
-use Rattle.circuit.proofs.Valid.{place-fits, limit-top}
+use Rattle.layout.proofs.Valid.{place-fits, limit-top}
 use Rattle.circuit.proofs.Places.{made-by}
 use borrow.Author.Needs.{needs}
 use Rattle.circuit.proofs.place.make.Statement.{statement}

@@ -1,4 +1,4 @@
-use Rattle.circuit.specs.Words.{nodeAt}
+use Rattle.layout.specs.Words.{nodeAt}
 use borrow.Author.Needs.{needs}
 use Rattle.circuit.proofs.place.node_at.Statement.{statement}
 use Rattle.circuit.proofs.place.node_at.Tie as tie

@@ -1,5 +1,5 @@
 use mathlib.Core.Path.{sym, ap}
-use Rattle.circuit.specs.Words.{encode}
+use Rattle.layout.specs.Words.{encode}
 use borrow.Author.Needs.{needs}
 use Rattle.circuit.proofs.place.words_of.Statement.{statement}
 use Rattle.circuit.proofs.place.words_of.Tie as tie

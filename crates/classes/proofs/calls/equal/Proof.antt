@@ -1,13 +1,13 @@
 use Rattle.classes.proofs.Numbering.{checked-orderly}
-use Rattle.circuit.specs.Answers.{accepted}
+use Rattle.layout.specs.Answers.{accepted}
 use mathlib.Core.Path.{ap₂}
 use mathlib.Core.Bool.{Bool}
 use lib.Dec.{eqb}
 use mathlib.Core.Path.{sym, ap, _∙_}
 use mathlib.Core.List.{[], _∷_}
 use native.Mathlib.Omega.{arith}
-use Rattle.circuit.proofs.Valid.{valid-length}
-use Rattle.circuit.proofs.Refusals.{refuses, accepts, refusal-none, reading-no-circuit, reading-bad-id, reading-accepted, no-bad-id, bad-id-here, bad-id-next}
+use Rattle.layout.proofs.Valid.{valid-length}
+use Rattle.layout.proofs.Refusals.{refuses, accepts, refusal-none, reading-no-circuit, reading-bad-id, reading-accepted, no-bad-id, bad-id-here, bad-id-next}
 use Rattle.classes.specs.Classes.{equalCall}
 use Rattle.classes.proofs.Finding.{number-same}
 use borrow.Author.Needs.{needs}

@@ -1,5 +1,5 @@
 use native.Mathlib.Omega.{arith}
-use Rattle.circuit.proofs.Valid.{valid-length}
+use Rattle.layout.proofs.Valid.{valid-length}
 use Rattle.classes.proofs.Finding.{numbers-inside, lowered-class}
 use borrow.Author.Needs.{needs}
 use Rattle.classes.proofs.find.classes.Statement.{statement}

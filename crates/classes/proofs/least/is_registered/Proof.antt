@@ -1,5 +1,5 @@
 use mathlib.Core.Path.{ap}
-use Rattle.circuit.specs.declared.node.Node.{Node}
+use Rattle.layout.specs.declared.node.Node.{Node}
 use borrow.Author.Needs.{needs}
 use Rattle.classes.proofs.least.is_registered.Statement.{statement}
 use Rattle.classes.proofs.least.is_registered.Tie as tie

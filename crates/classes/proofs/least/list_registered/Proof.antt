@@ -4,8 +4,8 @@ use mathlib.Core.Logic.{⊎-elim}
 use native.Mathlib.Omega.{arith}
 use lib.ListN.{length}
 use borrow.Author.Needs.{needs}
-use Rattle.circuit.specs.Words.{used, registered}
-use Rattle.circuit.proofs.Valid.{valid-length, valid-fits}
+use Rattle.layout.specs.Words.{used, registered}
+use Rattle.layout.proofs.Valid.{valid-length, valid-fits}
 use Rattle.classes.proofs.Firsts.{Listing, note-inside, list-start, list-skip, list-more, list-end}
 use Rattle.classes.proofs.least.list_registered.Statement.{statement}
 use Rattle.classes.proofs.least.list_registered.Tie as tie

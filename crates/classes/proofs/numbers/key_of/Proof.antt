@@ -1,5 +1,5 @@
 use mathlib.Core.Path.{ap, _∙_}
-use Rattle.circuit.specs.Words.{encode}
+use Rattle.layout.specs.Words.{encode}
 use Rattle.classes.specs.Numbers.{keyOf}
 use borrow.Author.Needs.{needs}
 use Rattle.classes.proofs.numbers.key_of.Statement.{statement}

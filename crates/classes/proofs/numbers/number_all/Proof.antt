@@ -1,8 +1,8 @@
 use Prim.Native.Nat.{_-_}
 use native.Mathlib.Omega.{arith}
 use borrow.Author.Needs.{needs}
-use Rattle.circuit.specs.Words.{used}
-use Rattle.circuit.proofs.Valid.{valid-length}
+use Rattle.layout.specs.Words.{used}
+use Rattle.layout.proofs.Valid.{valid-length}
 use Rattle.classes.proofs.Numbering.{Looping, loop-start, loop-enterable, loop-turn, loop-end}
 use Rattle.classes.proofs.numbers.number_all.Statement.{statement}
 use Rattle.classes.proofs.numbers.number_all.Tie as tie

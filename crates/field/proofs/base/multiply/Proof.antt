@@ -2,7 +2,7 @@
 use borrow.Author.Needs.{needs}
 use mathlib.Core.Path.{_∙_, ap}
 use Prim.Native.Nat.{ℕ, _%_}
-use Rattle.field.specs.Base.{p, multiply}
+use Rattle.arithmetic.specs.Base.{p, multiply}
 use Rattle.field.proofs.base.multiply.Statement.{statement}
 use Rattle.field.proofs.base.multiply.Tie as tie
 

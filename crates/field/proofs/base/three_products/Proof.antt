@@ -1,7 +1,7 @@
 -- `field::base::three_products` meets its contract: a sum of products may be reduced once. Assumes nothing.
 use mathlib.Core.Path.{_∙_, ap}
 use Prim.Native.Nat.{ℕ, _+_, _*_, _%_}
-use Rattle.field.specs.Base.{p, multiply}
+use Rattle.arithmetic.specs.Base.{p, multiply}
 use Rattle.field.proofs.Words.{three-reduced}
 use borrow.Author.Needs.{needs}
 use Rattle.field.proofs.base.three_products.Statement.{statement}

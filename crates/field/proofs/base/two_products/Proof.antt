@@ -1,7 +1,7 @@
 -- `field::base::two_products` meets its contract: a sum of products may be reduced once. Assumes nothing.
 use mathlib.Core.Path.{_∙_, ap, sym}
 use Prim.Native.Nat.{ℕ, _+_, _*_, _%_}
-use Rattle.field.specs.Base.{p, add, multiply}
+use Rattle.arithmetic.specs.Base.{p, add, multiply}
 use Rattle.field.proofs.Words.{add-reduced}
 use borrow.Author.Needs.{needs}
 use Rattle.field.proofs.base.two_products.Statement.{statement}

@@ -1,5 +1,5 @@
 -- `field::extension::add` meets its contract: the three sums, by congruence. Assumes nothing.
-use Rattle.field.specs.Extension.{plus}
+use Rattle.arithmetic.specs.Extension.{plus}
 use borrow.Author.Needs.{needs}
 use Rattle.field.proofs.extension.add.Statement.{statement}
 use Rattle.field.proofs.extension.add.Tie as tie

@@ -1,5 +1,5 @@
 -- `field::extension::coefficients` meets its contract: the five stores make the five-word list, by congruence. Assumes nothing.
-use Rattle.field.specs.Extension.{coefficients}
+use Rattle.arithmetic.specs.Extension.{coefficients}
 use borrow.Author.Needs.{needs}
 use Rattle.field.proofs.extension.coefficients.Statement.{statement}
 use Rattle.field.proofs.extension.coefficients.Tie as tie

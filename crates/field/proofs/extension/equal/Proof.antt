@@ -1,6 +1,6 @@
 -- `field::extension::equal` meets its contract: its tests are the definition's. Assumes nothing.
 use mathlib.Core.Path.{refl}
-use Rattle.field.specs.Extension.{sameTriple}
+use Rattle.arithmetic.specs.Extension.{sameTriple}
 use Rattle.field.proofs.extension.equal.Statement.{statement}
 use Rattle.field.proofs.extension.equal.Tie as tie
 

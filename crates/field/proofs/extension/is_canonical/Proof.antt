@@ -1,5 +1,5 @@
 -- `field::extension::is_canonical` meets its contract: one test a word. Assumes nothing.
-use Rattle.field.specs.Extension.{canonicalTriple}
+use Rattle.arithmetic.specs.Extension.{canonicalTriple}
 use borrow.Author.Needs.{needs}
 use Rattle.field.proofs.extension.is_canonical.Statement.{statement}
 use Rattle.field.proofs.extension.is_canonical.Tie as tie

@@ -1,7 +1,7 @@
 -- `field::extension::multiply` meets its contract: the coefficients are remainders, and the fold of them is one law. Assumes nothing.
 use mathlib.Core.Path.{_∙_, ap}
 use native.Mathlib.Omega.{arith}
-use Rattle.field.specs.Extension.{folded, times}
+use Rattle.arithmetic.specs.Extension.{folded, times}
 use Rattle.field.proofs.Folds.{below, folds}
 use borrow.Author.Needs.{needs}
 use Rattle.field.proofs.extension.multiply.Statement.{statement}

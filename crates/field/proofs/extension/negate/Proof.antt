@@ -1,5 +1,5 @@
 -- `field::extension::negate` meets its contract: the three words, by congruence. Assumes nothing.
-use Rattle.field.specs.Extension.{minus}
+use Rattle.arithmetic.specs.Extension.{minus}
 use borrow.Author.Needs.{needs}
 use Rattle.field.proofs.extension.negate.Statement.{statement}
 use Rattle.field.proofs.extension.negate.Tie as tie

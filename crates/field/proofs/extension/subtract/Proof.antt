@@ -1,5 +1,5 @@
 -- `field::extension::subtract` meets its contract: the three differences, by congruence. Assumes nothing.
-use Rattle.field.specs.Extension.{difference}
+use Rattle.arithmetic.specs.Extension.{difference}
 use borrow.Author.Needs.{needs}
 use Rattle.field.proofs.extension.subtract.Statement.{statement}
 use Rattle.field.proofs.extension.subtract.Tie as tie

@@ -1,5 +1,5 @@
 -- `field::extension::unlift` meets its contract, by the test that it branches on. Assumes nothing.
-use Rattle.field.specs.Unlift.{unlift}
+use Rattle.arithmetic.specs.Unlift.{unlift}
 use borrow.Author.Needs.{needs}
 use Rattle.field.proofs.extension.unlift.Statement.{statement}
 use Rattle.field.proofs.extension.unlift.Tie as tie

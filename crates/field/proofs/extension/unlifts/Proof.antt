@@ -1,6 +1,6 @@
 -- `field::extension::unlifts` meets its contract: its tests are the definition's. Assumes nothing.
 use mathlib.Core.Path.{refl}
-use Rattle.field.specs.Extension.{unlifts}
+use Rattle.arithmetic.specs.Extension.{unlifts}
 use Rattle.field.proofs.extension.unlifts.Statement.{statement}
 use Rattle.field.proofs.extension.unlifts.Tie as tie
 

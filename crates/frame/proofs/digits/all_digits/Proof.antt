@@ -4,7 +4,7 @@ use native.Mathlib.Omega.{arith}
 use lib.ListN.{length, drop}
 use borrow.Author.Needs.{needs}
 use borrow.Author.Tests.{not-true, not-false}
-use Rattle.circuit.specs.Lists.{all}
+use Rattle.layout.specs.Lists.{all}
 use Rattle.framing.specs.Digits.{isDigit}
 use Rattle.frame.proofs.Hexadecimal.{all-here, all-next, all-done}
 use Rattle.frame.proofs.digits.all_digits.Statement.{statement}

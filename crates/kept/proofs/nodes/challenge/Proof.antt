@@ -1,5 +1,5 @@
 use mathlib.Core.Path.{sym, _∙_}
-use Rattle.circuit.proofs.Refusals.{refusal-here, refusal-next}
+use Rattle.layout.proofs.Refusals.{refusal-here, refusal-next}
 use Rattle.building.specs.Calls.{challengeCall}
 use Rattle.kept.proofs.Asking.{kept-refused, kept-call, challenge-good}
 use borrow.Author.Needs.{needs}

@@ -1,7 +1,7 @@
 use mathlib.Core.Path.{sym, ap, _∙_}
-use Rattle.circuit.specs.NotCircuit.{badIndex}
-use Rattle.circuit.proofs.Refusals.{refusal-here, refusal-next}
-use Rattle.circuit.proofs.Valid.{valid-length}
+use Rattle.layout.specs.NotCircuit.{badIndex}
+use Rattle.layout.proofs.Refusals.{refusal-here, refusal-next}
+use Rattle.layout.proofs.Valid.{valid-length}
 use Rattle.building.specs.Calls.{inputCall}
 use Rattle.kept.proofs.Asking.{kept-refused, kept-call, input-good}
 use borrow.Author.Needs.{needs}

@@ -1,4 +1,4 @@
-use Rattle.circuit.proofs.Valid.{valid-length}
+use Rattle.layout.proofs.Valid.{valid-length}
 use Rattle.kept.proofs.Asking.{left-refused, right-refused, both-ends}
 use borrow.Author.Needs.{needs}
 use Rattle.kept.proofs.nodes.on_nodes.Statement.{statement}

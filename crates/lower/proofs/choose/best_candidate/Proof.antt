@@ -2,7 +2,7 @@ use borrow.Author.Needs.{needs}
 use Prim.Native.Nat.{_≤_, _-_}
 use mathlib.Core.Path.{_≡_, ap, _∙_}
 use native.Mathlib.Omega.{arith}
-use Rattle.circuit.specs.Lists.{each, upTo}
+use Rattle.layout.specs.Lists.{each, upTo}
 use Rattle.lowering.specs.Lowering.{Candidate}
 use Rattle.lower.specs.Tables.{candidateOf, improved}
 use Rattle.lower.proofs.Renames.{each-start, each-next}

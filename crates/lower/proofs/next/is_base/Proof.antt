@@ -1,5 +1,5 @@
 use native.Mathlib.Omega.{arith}
-use Rattle.circuit.proofs.Valid.{valid-length}
+use Rattle.layout.proofs.Valid.{valid-length}
 use Rattle.lower.proofs.next.is_base.Statement.{statement}
 use Rattle.lower.proofs.next.is_base.Tie as tie
 

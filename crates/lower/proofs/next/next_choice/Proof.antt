@@ -1,7 +1,7 @@
 use borrow.Author.Needs.{needs}
 use borrow.Author.Tests.{not-true, not-false}
 use native.Mathlib.Omega.{arith}
-use Rattle.circuit.proofs.Valid.{valid-length}
+use Rattle.layout.proofs.Valid.{valid-length}
 use Rattle.lower.proofs.Surveys.{picked-done, ranked, picked-node}
 use Rattle.lower.proofs.next.next_choice.Statement.{statement}
 use Rattle.lower.proofs.next.next_choice.Tie as tie

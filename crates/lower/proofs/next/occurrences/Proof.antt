@@ -2,8 +2,8 @@ use mathlib.Core.Path.{sym}
 use lib.Seq.{length-take-le}
 use borrow.Author.Needs.{needs}
 use native.Mathlib.Omega.{arith}
-use Rattle.circuit.specs.Words.{used}
-use Rattle.circuit.proofs.Valid.{valid-length}
+use Rattle.layout.specs.Words.{used}
+use Rattle.layout.proofs.Valid.{valid-length}
 use Rattle.paths.proofs.Counts.{valid-top}
 use Rattle.lower.proofs.Surveys.{high-few, high-countable}
 use Rattle.lower.proofs.next.occurrences.Statement.{statement}

@@ -1,13 +1,13 @@
-use Rattle.circuit.proofs.Valid.{place-fits, limit-top}
+use Rattle.layout.proofs.Valid.{place-fits, limit-top}
 use borrow.Author.Needs.{needs}
 use Prim.Native.Nat.{ℕ, _≤_, _-_}
 use mathlib.Core.Path.{_≡_, refl, ap, _∙_}
 use mathlib.Core.List.{List}
 use lib.ListN.{length}
 use native.Mathlib.Omega.{arith}
-use Rattle.circuit.specs.Lists.{each, upTo}
-use Rattle.circuit.specs.Words.{used}
-use Rattle.circuit.proofs.Valid.{place-fits}
+use Rattle.layout.specs.Lists.{each, upTo}
+use Rattle.layout.specs.Words.{used}
+use Rattle.layout.proofs.Valid.{place-fits}
 use Rattle.circuit.proofs.Places.{write-used}
 use Rattle.lowering.specs.Lowering.{renameOperands, redirected}
 use Rattle.lower.proofs.Renames.{each-start, each-next}

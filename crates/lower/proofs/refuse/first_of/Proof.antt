@@ -1,4 +1,4 @@
-use Rattle.circuit.specs.Outcomes.{refusal}
+use Rattle.layout.specs.Outcomes.{refusal}
 use Rattle.lower.proofs.refuse.first_of.Statement.{statement}
 use Rattle.lower.proofs.refuse.first_of.Tie as tie
 

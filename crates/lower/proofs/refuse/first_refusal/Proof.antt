@@ -2,8 +2,8 @@ use borrow.Author.Needs.{needs}
 use Rattle.lower.proofs.Refuses.{circuit-yes, circuit-no}
 use mathlib.Core.Path.{sym, _∙_}
 use borrow.Author.Tests.{not-true, not-false, lt-ltb, le-ltb}
-use Rattle.circuit.proofs.Valid.{valid-length}
-use Rattle.circuit.specs.Outcomes.{refusal}
+use Rattle.layout.proofs.Valid.{valid-length}
+use Rattle.layout.specs.Outcomes.{refusal}
 use Rattle.lower.specs.Refusing.{firstRefusal}
 use Rattle.lower.proofs.refuse.first_refusal.Statement.{statement}
 use Rattle.lower.proofs.refuse.first_refusal.Tie as tie

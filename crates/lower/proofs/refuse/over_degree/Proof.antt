@@ -1,6 +1,6 @@
 use borrow.Author.Needs.{needs}
 use native.Mathlib.Omega.{arith}
-use Rattle.circuit.proofs.Valid.{valid-length}
+use Rattle.layout.proofs.Valid.{valid-length}
 use Rattle.paths.proofs.Counts.{valid-top}
 use Rattle.lower.proofs.Refuses.{degree-told}
 use Rattle.lower.proofs.refuse.over_degree.Statement.{statement}

@@ -1,6 +1,6 @@
 use borrow.Author.Needs.{needs}
 use mathlib.Core.Path.{_∙_}
-use Rattle.circuit.proofs.Valid.{valid-length}
+use Rattle.layout.proofs.Valid.{valid-length}
 use Rattle.lower.proofs.Refuses.{over-from}
 use Rattle.lower.proofs.refuse.over_occurrences.Statement.{statement}
 use Rattle.lower.proofs.refuse.over_occurrences.Tie as tie

@@ -1,6 +1,6 @@
 use mathlib.Core.Path.{sym, _∙_}
 use native.Mathlib.Omega.{arith}
-use Rattle.circuit.proofs.Valid.{valid-length}
+use Rattle.layout.proofs.Valid.{valid-length}
 use Rattle.paths.proofs.Counts.{valid-top}
 use Rattle.lower.proofs.Refuses.{heavy-few, then-told}
 use borrow.Author.Needs.{needs}

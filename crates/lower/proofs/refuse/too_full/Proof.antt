@@ -1,6 +1,6 @@
 use borrow.Author.Needs.{needs}
 use native.Mathlib.Omega.{arith}
-use Rattle.circuit.proofs.Valid.{valid-length, valid-room}
+use Rattle.layout.proofs.Valid.{valid-length, valid-room}
 use Rattle.lower.proofs.refuse.too_full.Statement.{statement}
 use Rattle.lower.proofs.refuse.too_full.Tie as tie
 

@@ -1,5 +1,5 @@
 use borrow.Author.Needs.{needs}
-use Rattle.circuit.proofs.Valid.{valid-length}
+use Rattle.layout.proofs.Valid.{valid-length}
 use Rattle.lower.proofs.Substitution.{gives-new}
 use Rattle.lower.proofs.substitute.make_input.Statement.{statement}
 use Rattle.lower.proofs.substitute.make_input.Tie as tie

@@ -3,11 +3,11 @@ use Prim.Native.Nat.{_≤_, _-_}
 use mathlib.Core.Path.{_≡_, sym, _∙_}
 use mathlib.Core.Bool.{false}
 use native.Mathlib.Omega.{arith}
-use Rattle.circuit.specs.Lists.{any, upTo}
-use Rattle.circuit.specs.Words.{used, expressionAt}
+use Rattle.layout.specs.Lists.{any, upTo}
+use Rattle.layout.specs.Words.{used, expressionAt}
 use Rattle.lowering.specs.Refusals.{inputAtOrAbove}
-use Rattle.circuit.proofs.Tests.{any-start, any-one, any-next}
-use Rattle.circuit.proofs.Valid.{valid-length, valid-fits}
+use Rattle.layout.proofs.Tests.{any-start, any-one, any-next}
+use Rattle.layout.proofs.Valid.{valid-length, valid-fits}
 use Rattle.paths.proofs.Counts.{valid-top}
 use Rattle.lower.proofs.tests.any_at_or_above.Statement.{statement}
 use Rattle.lower.proofs.tests.any_at_or_above.Tie as tie

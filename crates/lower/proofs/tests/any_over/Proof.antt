@@ -3,9 +3,9 @@ use Prim.Native.Nat.{_≤_, _-_}
 use mathlib.Core.Path.{_≡_, sym, _∙_}
 use mathlib.Core.Bool.{false}
 use native.Mathlib.Omega.{arith}
-use Rattle.circuit.specs.Lists.{any, upTo}
+use Rattle.layout.specs.Lists.{any, upTo}
 use Rattle.lower.specs.Tables.{isOverIn}
-use Rattle.circuit.proofs.Tests.{any-start, any-one, any-next}
+use Rattle.layout.proofs.Tests.{any-start, any-one, any-next}
 use Rattle.lower.proofs.tests.any_over.Statement.{statement}
 use Rattle.lower.proofs.tests.any_over.Tie as tie
 

@@ -4,7 +4,7 @@ use mathlib.Core.Path.{_≡_, sym, _∙_}
 use mathlib.Core.Bool.{false}
 use native.Mathlib.Omega.{arith}
 use lib.ListN.{length, take}
-use Rattle.circuit.specs.Lists.{any}
+use Rattle.layout.specs.Lists.{any}
 use Rattle.lower.specs.Tables.{aboveIn}
 use Rattle.lower.proofs.Seen.{seen-none, seen-one, seen-more, seen-all}
 use Rattle.lower.proofs.tests.too_high.Statement.{statement}

@@ -1,6 +1,6 @@
 use mathlib.Core.Path.{_≡_, refl, sym, ap, _∙_}
 use lib.ListN.{length, set, replicate, length-set}
-use Rattle.circuit.specs.Lists.{written}
+use Rattle.layout.specs.Lists.{written}
 use Rattle.paths.proofs.Written.{written-none, zeros-next}
 use Prim.Native.Nat.{ℕ, _≤_, _-_}
 use mathlib.Core.List.{List}

@@ -3,8 +3,8 @@ use mathlib.Core.Path.{_≡_, refl, _∙_}
 use native.Mathlib.Omega.{arith}
 use lib.ListN.{length}
 use borrow.Author.Needs.{needs}
-use Rattle.circuit.specs.Words.{used}
-use Rattle.circuit.proofs.Valid.{valid-length}
+use Rattle.layout.specs.Words.{used}
+use Rattle.layout.proofs.Valid.{valid-length}
 use Rattle.paths.proofs.Walks.{roots-below}
 use Rattle.paths.proofs.Written.{zeros-at}
 use Rattle.paths.proofs.Counts.{valid-top, Shares, shares-start, shares-small, shares-step, shares-done}

@@ -1,6 +1,6 @@
 use mathlib.Core.Path.{sym, _∙_}
 use native.Mathlib.Omega.{arith}
-use Rattle.circuit.proofs.Valid.{valid-fits}
+use Rattle.layout.proofs.Valid.{valid-fits}
 use Rattle.paths.proofs.Walks.{step-below}
 use Rattle.paths.proofs.Counts.{valid-top, give-stay, give-two}
 use borrow.Author.Needs.{needs}

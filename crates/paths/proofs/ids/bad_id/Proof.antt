@@ -4,7 +4,7 @@ use native.Mathlib.Omega.{arith}
 use lib.ListN.{length}
 use borrow.Author.Needs.{needs}
 use borrow.Author.Count.{below-none, below-more}
-use Rattle.circuit.specs.Words.{used}
+use Rattle.layout.specs.Words.{used}
 use Rattle.circuit.specs.Rank.{at}
 use Rattle.paths.proofs.Walks.{ids-good, ids-bad}
 use Rattle.paths.proofs.ids.bad_id.Statement.{statement}

@@ -5,9 +5,9 @@ use native.Mathlib.Omega.{arith}
 use lib.Dec.{ltb}
 use borrow.Author.Needs.{needs}
 use borrow.Author.Tests.{lt-ltb, le-ltb}
-use Rattle.circuit.specs.Lists.{any, upTo}
+use Rattle.layout.specs.Lists.{any, upTo}
 use Rattle.circuit.specs.Rank.{at}
-use Rattle.circuit.proofs.Tests.{any-one, any-next, any-start}
+use Rattle.layout.proofs.Tests.{any-one, any-next, any-start}
 use Rattle.paths.proofs.references.any_over.Statement.{statement}
 use Rattle.paths.proofs.references.any_over.Tie as tie
 

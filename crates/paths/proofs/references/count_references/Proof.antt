@@ -3,8 +3,8 @@ use lib.ListN.{length}
 use mathlib.Core.Path.{sym, _∙_}
 use native.Mathlib.Omega.{arith}
 use borrow.Author.Tests.{not-false}
-use Rattle.circuit.proofs.Refusals.{refuses, accepts}
-use Rattle.circuit.proofs.Valid.{valid-length}
+use Rattle.layout.proofs.Refusals.{refuses, accepts}
+use Rattle.layout.proofs.Valid.{valid-length}
 use Rattle.paths.proofs.Walks.{roots-below}
 use Rattle.paths.proofs.Counts.{valid-top}
 use Rattle.paths.proofs.Calls.{count-no-circuit, count-bad-id, count-repeat, count-over, count-done}

@@ -2,8 +2,8 @@ use Prim.Native.Nat.{_≤_}
 use native.Mathlib.Omega.{arith}
 use lib.ListN.{length}
 use borrow.Author.Tests.{not-false}
-use Rattle.circuit.proofs.Refusals.{refuses, accepts, bad-id-here}
-use Rattle.circuit.proofs.Valid.{valid-length}
+use Rattle.layout.proofs.Refusals.{refuses, accepts, bad-id-here}
+use Rattle.layout.proofs.Valid.{valid-length}
 use Rattle.paths.proofs.Counts.{valid-top}
 use Rattle.paths.proofs.Gathers.{gathered-few}
 use Rattle.paths.proofs.Calls.{one-good, counts-no-circuit, counts-bad-id, counts-no-room, counts-done}

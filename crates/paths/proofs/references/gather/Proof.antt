@@ -1,11 +1,11 @@
-use Rattle.circuit.specs.declared.node.Node.{Node}
+use Rattle.layout.specs.declared.node.Node.{Node}
 use Prim.Native.Nat.{_≤_, _-_}
 use mathlib.Core.Path.{_≡_, ap}
 use mathlib.Core.Logic.{⊎-elim}
 use native.Mathlib.Omega.{arith}
 use borrow.Author.Needs.{needs}
-use Rattle.circuit.specs.Words.{used}
-use Rattle.circuit.proofs.Valid.{valid-length, valid-fits}
+use Rattle.layout.specs.Words.{used}
+use Rattle.layout.proofs.Valid.{valid-length, valid-fits}
 use Rattle.paths.proofs.Counts.{valid-top}
 use Rattle.paths.proofs.Gathers.{Gathered, gathered-start, gathered-few, gathered-next, gathered-same}
 use Rattle.paths.proofs.references.gather.Statement.{statement}

@@ -4,10 +4,10 @@ use mathlib.Core.Path.{_≡_, refl, sym, _∙_}
 use native.Mathlib.Omega.{arith}
 use lib.ListN.{length}
 use borrow.Author.Needs.{needs}
-use Rattle.circuit.specs.Lists.{upTo, each}
-use Rattle.circuit.specs.Words.{used}
+use Rattle.layout.specs.Lists.{upTo, each}
+use Rattle.layout.specs.Words.{used}
 use Rattle.circuit.specs.Rank.{at}
-use Rattle.circuit.proofs.Valid.{valid-length, valid-fits}
+use Rattle.layout.proofs.Valid.{valid-length, valid-fits}
 use Rattle.paths.specs.Rising.{put, putAll}
 use Rattle.paths.proofs.Counts.{valid-top}
 use Rattle.paths.proofs.Gathers.{each-none}

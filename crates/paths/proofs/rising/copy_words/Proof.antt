@@ -4,7 +4,7 @@ use mathlib.Core.List.{List}
 use native.Mathlib.Omega.{arith}
 use lib.ListN.{length, set, take, length-set}
 use borrow.Author.Needs.{needs}
-use Rattle.circuit.specs.Lists.{written}
+use Rattle.layout.specs.Lists.{written}
 use Rattle.circuit.specs.Rank.{at}
 use Rattle.paths.proofs.Written.{written-none}
 use Rattle.paths.proofs.Inserts.{copy-next}

@@ -3,8 +3,8 @@ use mathlib.Core.Path.{_≡_, refl}
 use native.Mathlib.Omega.{arith}
 use lib.ListN.{length, length-set}
 use borrow.Author.Needs.{needs}
-use Rattle.circuit.specs.Words.{used}
-use Rattle.circuit.proofs.Valid.{valid-length}
+use Rattle.layout.specs.Words.{used}
+use Rattle.layout.proofs.Valid.{valid-length}
 use Rattle.paths.proofs.Counts.{valid-top}
 use Rattle.paths.proofs.Lengths.{SizesTo, sizes-start, sizes-operands, sizes-next, sizes-done}
 use Rattle.paths.proofs.sizes.tree_sizes.Statement.{statement}

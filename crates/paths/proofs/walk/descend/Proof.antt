@@ -3,8 +3,8 @@ use mathlib.Core.Path.{sym, _∙_}
 use native.Mathlib.Omega.{arith}
 use lib.ListN.{length-set}
 use borrow.Author.Needs.{needs}
-use Rattle.circuit.specs.Words.{used}
-use Rattle.circuit.proofs.Valid.{valid-fits}
+use Rattle.layout.specs.Words.{used}
+use Rattle.layout.proofs.Valid.{valid-fits}
 use Rattle.paths.proofs.Counts.{valid-top}
 use Rattle.paths.proofs.Stacks.{Lineage, lineage-start, lineage-left, lineage-done, level-room}
 use Rattle.paths.proofs.walk.descend.Statement.{statement}

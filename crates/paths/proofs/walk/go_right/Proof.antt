@@ -1,5 +1,5 @@
 use mathlib.Core.Path.{sym, _∙_}
-use Rattle.circuit.proofs.Valid.{valid-fits}
+use Rattle.layout.proofs.Valid.{valid-fits}
 use Rattle.paths.proofs.Stacks.{right-none, right-some, right-descends}
 use borrow.Author.Needs.{needs}
 use Rattle.paths.proofs.walk.go_right.Statement.{statement}

@@ -1,8 +1,8 @@
 use mathlib.Core.Path.{sym, _∙_}
 use native.Mathlib.Omega.{arith}
 use borrow.Author.Tests.{not-false}
-use Rattle.circuit.proofs.Refusals.{refuses, accepts}
-use Rattle.circuit.proofs.Valid.{valid-length}
+use Rattle.layout.proofs.Refusals.{refuses, accepts}
+use Rattle.layout.proofs.Valid.{valid-length}
 use Rattle.paths.proofs.Calls.{walk-no-circuit, walk-bad-id, walk-no-list, walk-no-stack, walk-fits, walk-done}
 use borrow.Author.Needs.{needs}
 use Rattle.paths.proofs.walk.walk.Statement.{statement}

@@ -3,8 +3,8 @@ use Rattle.read.proofs.Bases.{bit-test}
 use Rattle.read.proofs.Tables.{sorted-ranked}
 use Rattle.reading.specs.Calls.{baseTestCall}
 use Rattle.paths.proofs.Counts.{valid-top}
-use Rattle.circuit.proofs.Refusals.{refuses, accepts, refusal-none, reading-no-circuit, reading-bad-id, reading-accepted, bad-id-here}
-use Rattle.circuit.proofs.Valid.{valid-length}
+use Rattle.layout.proofs.Refusals.{refuses, accepts, refusal-none, reading-no-circuit, reading-bad-id, reading-accepted, bad-id-here}
+use Rattle.layout.proofs.Valid.{valid-length}
 use borrow.Author.Tests.{not-false}
 use native.Mathlib.Omega.{arith}
 use mathlib.Core.List.{[], _∷_}

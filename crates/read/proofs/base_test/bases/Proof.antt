@@ -2,9 +2,9 @@ use Rattle.read.proofs.Bases.{base-leaves}
 use Rattle.read.proofs.Tables.{Filling, filling-start, filling-done, filling-told, asked-one}
 use Rattle.read.specs.Bases.{baseBit}
 use Rattle.read.specs.Tables.{Right, itself}
-use Rattle.circuit.proofs.Valid.{valid-length}
+use Rattle.layout.proofs.Valid.{valid-length}
 use Rattle.circuit.specs.Rank.{at}
-use Rattle.circuit.specs.Words.{used}
+use Rattle.layout.specs.Words.{used}
 use mathlib.Core.Path.{refl, _∙_}
 use Prim.Native.Nat.{_-_}
 use native.Mathlib.Omega.{arith}

@@ -1,7 +1,7 @@
 use Rattle.reading.specs.Calls.{constantCall}
 use Rattle.read.proofs.Lists.{good-id}
-use Rattle.circuit.proofs.Refusals.{refuses, accepts, refusal-none, reading-no-circuit, reading-bad-id, reading-accepted, bad-id-here}
-use Rattle.circuit.proofs.Valid.{valid-length, valid-fits}
+use Rattle.layout.proofs.Refusals.{refuses, accepts, refusal-none, reading-no-circuit, reading-bad-id, reading-accepted, bad-id-here}
+use Rattle.layout.proofs.Valid.{valid-length, valid-fits}
 use mathlib.Core.List.{[], _∷_}
 use mathlib.Core.Path.{sym}
 use borrow.Author.Needs.{needs}

@@ -2,7 +2,7 @@ use Rattle.read.proofs.Along.{degree-leaf, operands-below, degree-joine
 use Rattle.read.specs.Degrees.{degreeEntry}
 use Rattle.read.specs.Tables.{operandsOf}
 use Rattle.paths.proofs.Counts.{valid-top}
-use Rattle.circuit.proofs.Valid.{valid-fits}
+use Rattle.layout.proofs.Valid.{valid-fits}
 use mathlib.Core.Path.{sym, ap, _∙_}
 use native.Mathlib.Omega.{arith}
 use borrow.Author.Needs.{needs}

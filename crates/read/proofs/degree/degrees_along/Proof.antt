@@ -1,8 +1,8 @@
 use Rattle.read.proofs.Along.{Along, along-joinable, along-next, along-done}
 use Rattle.read.proofs.Tables.{filling-start}
 use Rattle.paths.proofs.Counts.{valid-top}
-use Rattle.circuit.proofs.Valid.{valid-length}
-use Rattle.circuit.specs.Words.{used}
+use Rattle.layout.proofs.Valid.{valid-length}
+use Rattle.layout.specs.Words.{used}
 use mathlib.Core.Path.{refl}
 use Prim.Native.Nat.{_-_}
 use native.Mathlib.Omega.{arith}

@@ -1,6 +1,6 @@
 use Rattle.reading.specs.Calls.{highestCall}
-use Rattle.circuit.proofs.Refusals.{refuses, accepts, reading-no-circuit, reading-bad-id}
-use Rattle.circuit.proofs.Valid.{valid-length}
+use Rattle.layout.proofs.Refusals.{refuses, accepts, reading-no-circuit, reading-bad-id}
+use Rattle.layout.proofs.Valid.{valid-length}
 use native.Mathlib.Omega.{arith}
 use borrow.Author.Tests.{not-false}
 use mathlib.Core.Path.{sym, _∙_}

@@ -4,7 +4,7 @@ use Rattle.reading.specs.Calls.{highestCall}
 use Rattle.reading.specs.Readings.{signed}
 use Rattle.paths.proofs.Walks.{roots-below}
 use Rattle.paths.proofs.Counts.{valid-top}
-use Rattle.circuit.proofs.Refusals.{refusal-none, refusal-here, refusal-next, reading-refused, reading-accepted}
+use Rattle.layout.proofs.Refusals.{refusal-none, refusal-here, refusal-next, reading-refused, reading-accepted}
 use mir.Facts.{toZ-ofZ}
 use mir.Syntax.{w64}
 use native.Mathlib.Omega.{arith}

@@ -1,8 +1,8 @@
 use Rattle.read.proofs.Tables.{Filling, filling-start, filling-done, filling-word}
 use Rattle.read.specs.Degrees.{degreeStart, degreeEntry}
-use Rattle.circuit.proofs.Valid.{valid-length, valid-fits}
+use Rattle.layout.proofs.Valid.{valid-length, valid-fits}
 use Rattle.circuit.specs.Rank.{at}
-use Rattle.circuit.specs.Words.{used}
+use Rattle.layout.specs.Words.{used}
 use mathlib.Core.Path.{refl, ap, _∙_}
 use Prim.Native.Nat.{_-_}
 use native.Mathlib.Omega.{arith}

@@ -1,6 +1,6 @@
 use Rattle.read.proofs.Lists.{any-none-yet, any-not-here, any-nowhere, any-here}
-use Rattle.circuit.specs.NotCircuit.{badWord}
-use Rattle.circuit.specs.Lists.{any}
+use Rattle.layout.specs.NotCircuit.{badWord}
+use Rattle.layout.specs.Lists.{any}
 use lib.ListN.{length, take}
 use mathlib.Core.Bool.{false}
 use mathlib.Core.Path.{_≡_, sym, _∙_}

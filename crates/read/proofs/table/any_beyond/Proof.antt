@@ -1,8 +1,8 @@
 use Rattle.read.specs.Lent.{beyondAt}
-use Rattle.circuit.proofs.Tests.{any-start, any-next, any-one}
-use Rattle.circuit.proofs.Valid.{valid-length}
-use Rattle.circuit.specs.Words.{used}
-use Rattle.circuit.specs.Lists.{any, upTo}
+use Rattle.layout.proofs.Tests.{any-start, any-next, any-one}
+use Rattle.layout.proofs.Valid.{valid-length}
+use Rattle.layout.specs.Words.{used}
+use Rattle.layout.specs.Lists.{any, upTo}
 use mathlib.Core.Bool.{false}
 use mathlib.Core.Path.{_≡_, sym, _∙_}
 use Prim.Native.Nat.{_-_, _≤_}

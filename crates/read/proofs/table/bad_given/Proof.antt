@@ -1,5 +1,5 @@
 use Rattle.read.proofs.Lists.{any-three}
-use Rattle.circuit.specs.NotCircuit.{badWord}
+use Rattle.layout.specs.NotCircuit.{badWord}
 use borrow.Author.Needs.{needs}
 use Rattle.read.proofs.table.bad_given.Statement.{statement}
 use Rattle.read.proofs.table.bad_given.Tie as tie

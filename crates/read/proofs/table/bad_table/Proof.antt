@@ -1,8 +1,8 @@
 use Rattle.read.proofs.Lent.{table-uneven, table-even}
 use Rattle.read.specs.Lent.{beyondAt}
 use Rattle.read.specs.declared.table.Columns.{Columns}
-use Rattle.circuit.specs.Words.{used}
-use Rattle.circuit.specs.Lists.{any, upTo}
+use Rattle.layout.specs.Words.{used}
+use Rattle.layout.specs.Lists.{any, upTo}
 use mathlib.Core.Path.{sym, ap, _∙_}
 use borrow.Author.Needs.{needs}
 use Rattle.read.proofs.table.bad_table.Statement.{statement}

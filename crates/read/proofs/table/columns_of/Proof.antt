@@ -1,5 +1,5 @@
 use Rattle.read.proofs.Lent.{valid-rows}
-use Rattle.circuit.proofs.Valid.{valid-length}
+use Rattle.layout.proofs.Valid.{valid-length}
 use native.Mathlib.Omega.{arith}
 use borrow.Author.Needs.{needs}
 use Rattle.read.proofs.table.columns_of.Statement.{statement}

@@ -1,5 +1,5 @@
 use Rattle.read.specs.Lent.{beyond, beyondAt}
-use Rattle.circuit.proofs.Valid.{valid-fits}
+use Rattle.layout.proofs.Valid.{valid-fits}
 use Rattle.circuit.specs.Rank.{at}
 use borrow.Author.Tests.{lt-ltb, le-ltb}
 use mathlib.Core.Path.{ap, _∙_}

@@ -1,6 +1,6 @@
 use borrow.Author.Needs.{needs}
 use Rattle.read.proofs.Lent.{valid-rows}
-use Rattle.circuit.proofs.Valid.{valid-length}
+use Rattle.layout.proofs.Valid.{valid-length}
 use borrow.Author.Tests.{eq-eqb, ne-eqb}
 use native.Mathlib.Omega.{arith}
 use Rattle.read.proofs.table.is_uneven.Statement.{statement}

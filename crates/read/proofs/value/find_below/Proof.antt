@@ -1,6 +1,6 @@
 use Rattle.read.proofs.Values.{Finding, finding-start, finding-skip, finding-next}
-use Rattle.circuit.proofs.Valid.{valid-length}
-use Rattle.circuit.specs.Words.{used}
+use Rattle.layout.proofs.Valid.{valid-length}
+use Rattle.layout.specs.Words.{used}
 use mathlib.Core.Logic.{⊎-elim}
 use Prim.Native.Nat.{_-_}
 use native.Mathlib.Omega.{arith}

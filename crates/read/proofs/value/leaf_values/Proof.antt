@@ -2,8 +2,8 @@ use Rattle.read.proofs.Values.{filling-triple}
 use Rattle.read.proofs.Tables.{Filling, filling-start, filling-done}
 use Rattle.read.specs.Values.{valueStart, valueEntry}
 use Rattle.reading.specs.Calls.{tripleAt, assigned}
-use Rattle.circuit.proofs.Valid.{valid-length, valid-fits}
-use Rattle.circuit.specs.Words.{used}
+use Rattle.layout.proofs.Valid.{valid-length, valid-fits}
+use Rattle.layout.specs.Words.{used}
 use mathlib.Core.Path.{refl, ap, _∙_}
 use Prim.Native.Nat.{_-_}
 use native.Mathlib.Omega.{arith}

@@ -1,4 +1,4 @@
-use Rattle.field.specs.Extension.{lift}
+use Rattle.arithmetic.specs.Extension.{lift}
 use mathlib.Core.Path.{ap, _∙_}
 use borrow.Author.Needs.{needs}
 use Rattle.read.proofs.value.main_at.Statement.{statement}

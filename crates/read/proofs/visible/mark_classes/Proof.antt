@@ -1,7 +1,7 @@
 use Rattle.read.proofs.Seen.{marked-start, marked-skip, marked-set}
 use Rattle.read.specs.Marks.{Marked}
-use Rattle.circuit.proofs.Valid.{valid-length}
-use Rattle.circuit.specs.Words.{used}
+use Rattle.layout.proofs.Valid.{valid-length}
+use Rattle.layout.specs.Words.{used}
 use lib.ListN.{length, length-set}
 use mathlib.Core.Logic.{⊎-elim}
 use mathlib.Core.Path.{_≡_, refl}

@@ -1,6 +1,6 @@
 use Rattle.read.proofs.Seen.{no-marks, class-below, visible-told}
 use Rattle.paths.proofs.Counts.{valid-top}
-use Rattle.circuit.proofs.Valid.{valid-length}
+use Rattle.layout.proofs.Valid.{valid-length}
 use native.Mathlib.Omega.{arith}
 use mathlib.Core.Path.{_∙_}
 use borrow.Author.Needs.{needs}
