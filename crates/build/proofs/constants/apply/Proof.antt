@@ -2,27 +2,21 @@ use borrow.Author.Needs.{needs}
 use Rattle.build.proofs.constants.apply.Statement.{statement}
 use Rattle.build.proofs.constants.apply.Tie as tie
 
--- src/constants.rt:68:20
 enum-told : tie.Need-enum-told
 enum-told c = search needs
 
--- src/constants.rt:68:20
 add-requires : tie.Need-add-requires
 add-requires c κs = search needs
 
--- src/constants.rt:69:25
 enum-told-2 : tie.Need-enum-told-2
 enum-told-2 c = search needs
 
--- src/constants.rt:69:25
 multiply-requires : tie.Need-multiply-requires
 multiply-requires c κs = search needs
 
--- src/constants.rt:64:1
 returns : tie.Need-returns
 returns c = rw (c .before .enum-told .given .1) (c .add .ensures)
 
--- src/constants.rt:64:1
 returns-2 : tie.Need-returns-2
 returns-2 c = rw (c .before .enum-told2 .given .1) (c .multiply .ensures)
 

@@ -2,47 +2,36 @@ use borrow.Author.Needs.{needs}
 use Rattle.build.proofs.constants.constant_of.Statement.{statement}
 use Rattle.build.proofs.constants.constant_of.Tie as tie
 
--- src/constants.rt:25:26
 enum-known-e : tie.Need-enum-known-e
 enum-known-e c = search needs
 
--- src/constants.rt:25:46
 lift-requires : tie.Need-lift-requires
 lift-requires c κs = search needs
 
--- src/constants.rt:26:31
 enum-known-e-2 : tie.Need-enum-known-e-2
 enum-known-e-2 c = search needs
 
--- src/constants.rt:27:37
 enum-told : tie.Need-enum-told
 enum-told c = search needs
 
--- src/constants.rt:28:43
 enum-told-2 : tie.Need-enum-told-2
 enum-told-2 c = search needs
 
--- src/constants.rt:29:33
 enum-told-3 : tie.Need-enum-told-3
 enum-told-3 c = search needs
 
--- src/constants.rt:21:1
 returns : tie.Need-returns
 returns c = rw (c .before .before .e .given .1) (rw (c .lift .ensures))
 
--- src/constants.rt:21:1
 returns-2 : tie.Need-returns-2
 returns-2 c = rw (c .before .e2 .given .1)
 
--- src/constants.rt:21:1
 returns-3 : tie.Need-returns-3
 returns-3 c = search needs
 
--- src/constants.rt:21:1
 returns-4 : tie.Need-returns-4
 returns-4 c = search needs
 
--- src/constants.rt:21:1
 returns-5 : tie.Need-returns-5
 returns-5 c = search needs
 

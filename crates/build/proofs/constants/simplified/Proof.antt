@@ -2,27 +2,21 @@ use borrow.Author.Needs.{needs}
 use Rattle.build.proofs.constants.simplified.Statement.{statement}
 use Rattle.build.proofs.constants.simplified.Tie as tie
 
--- src/constants.rt:113:20
 enum-told : tie.Need-enum-told
 enum-told c = search needs
 
--- src/constants.rt:113:20
 simplified-sum-requires : tie.Need-simplified-sum-requires
 simplified-sum-requires c κs = search needs
 
--- src/constants.rt:114:25
 enum-told-2 : tie.Need-enum-told-2
 enum-told-2 c = search needs
 
--- src/constants.rt:114:25
 simplified-product-requires : tie.Need-simplified-product-requires
 simplified-product-requires c κs = search needs
 
--- src/constants.rt:108:1
 returns : tie.Need-returns
 returns c = rw (c .before .enum-told .given .1) (c .simplified-sum .ensures)
 
--- src/constants.rt:108:1
 returns-2 : tie.Need-returns-2
 returns-2 c = rw (c .before .enum-told2 .given .1) (c .simplified-product .ensures)
 

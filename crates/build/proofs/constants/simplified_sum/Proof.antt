@@ -4,25 +4,20 @@ use borrow.Author.Needs.{needs}
 use Rattle.build.proofs.constants.simplified_sum.Statement.{statement}
 use Rattle.build.proofs.constants.simplified_sum.Tie as tie
 
--- src/constants.rt:78:8
 is-constant-requires : tie.Need-is-constant-requires
 is-constant-requires c κs = search needs
 
--- src/constants.rt:79:9
 returns : tie.Need-returns
 unfolding simplified
 returns c = rw (sym (c .before .is-constant .ensures) ∙ c .if1 .taken)
 
--- src/constants.rt:81:8
 is-constant-requires-2 : tie.Need-is-constant-requires-2
 is-constant-requires-2 c κs = search needs
 
--- src/constants.rt:82:9
 returns-2 : tie.Need-returns-2
 unfolding simplified
 returns-2 c = rw (sym (c .before .before .before .is-constant .ensures) ∙ c .before .before .if1 .left, sym (c .before .is-constant2 .ensures) ∙ c .if2 .taken)
 
--- src/constants.rt:74:1
 returns-3 : tie.Need-returns-3
 unfolding simplified
 returns-3 c = rw (sym (c .before .before .before .is-constant .ensures) ∙ c .before .before .if1 .left, sym (c .before .is-constant2 .ensures) ∙ c .if2 .left)

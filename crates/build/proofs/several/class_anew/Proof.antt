@@ -4,43 +4,33 @@ use borrow.Author.Needs.{needs}
 use Rattle.build.proofs.several.class_anew.Statement.{statement}
 use Rattle.build.proofs.several.class_anew.Tie as tie
 
--- src/several.rt:63:14
 slice-aggregate-order-of : tie.Need-slice-aggregate-order-of
 slice-aggregate-order-of c = search needs
 
--- src/several.rt:63:26
 slice-aggregate-order-of-2 : tie.Need-slice-aggregate-order-of-2
 slice-aggregate-order-of-2 c = search needs
 
--- src/several.rt:63:5
 order-of-requires : tie.Need-order-of-requires
 order-of-requires c κs = (c .before .before .before .before .before .before .pre .circuit, (search needs, search needs))
 
--- src/several.rt:64:21
 slice-aggregate-class-tables : tie.Need-slice-aggregate-class-tables
 slice-aggregate-class-tables c = search needs
 
--- src/several.rt:64:29
 slice-aggregate-class-tables-2 : tie.Need-slice-aggregate-class-tables-2
 slice-aggregate-class-tables-2 c = search needs
 
--- src/several.rt:64:5
 class-tables-requires : tie.Need-class-tables-requires
 class-tables-requires c κs = fillable _ _ _ _ _ _ (c .before .before .before .before .before .before .before .before .before .before .before .before .before .before .pre) (c .before .before .before .before .before .before .before .order-of .ensures) (search needs) (header-top _ (valid-header _ (c .before .before .before .before .before .before .before .before .before .before .before .before .before .before .pre .circuit)))
 
--- src/several.rt:57:1
 same-length : tie.Need-same-length
 same-length c = search needs
 
--- src/several.rt:57:1
 same-length-2 : tie.Need-same-length-2
 same-length-2 c = search needs
 
--- src/several.rt:57:1
 same-length-3 : tie.Need-same-length-3
 same-length-3 c = search needs
 
--- src/several.rt:57:1
 returns : tie.Need-returns
 returns c = search needs
 

@@ -6,79 +6,60 @@ use borrow.Author.Needs.{needs}
 use Rattle.build.proofs.several.negate.Statement.{statement}
 use Rattle.build.proofs.several.negate.Tie as tie
 
--- src/several.rt:118:13
 slice-read-u : tie.Need-slice-read-u
 slice-read-u c = valid-length _ (c .before .before .before .before .before .pre .buildable .circuit)
 
--- src/several.rt:120:13
 slice-aggregate-save : tie.Need-slice-aggregate-save
 slice-aggregate-save c = search needs
 
--- src/several.rt:120:5
 save-requires : tie.Need-save-requires
 save-requires c κs = lent-used _ (valid-length _ (c .before .before .before .before .before .before .before .pre .buildable .circuit)) (valid-room _ (c .before .before .before .before .before .before .before .pre .buildable .circuit))
 
--- src/several.rt:121:9
 try-negate-requires : tie.Need-try-negate-requires
 try-negate-requires c κs = search needs
 
--- src/several.rt:123:18
 enum-known-made : tie.Need-enum-known-made
 enum-known-made c = search needs
 
--- src/several.rt:125:21
 enum-told : tie.Need-enum-told
 enum-told c = search needs
 
--- src/several.rt:125:24
 slice-aggregate-restore : tie.Need-slice-aggregate-restore
 slice-aggregate-restore c = search needs
 
--- src/several.rt:125:13
 restore-requires : tie.Need-restore-requires
 restore-requires c κs = let s = told-full (c .before .before .before .before .before .before .before .before .before .before .before .before .try-negate .ensures) (c .before .before .enum-told .given .1) in undoable _ _ _ _ _ (c .before .before .before .before .before .before .before .before .before .before .before .before .before .before .before .before .before .before .before .before .before .before .before .before .before .before .pre .buildable .circuit) (s .left) (s .left .few) (search needs)
 
--- src/several.rt:126:13
 class-anew-requires : tie.Need-class-anew-requires
 class-anew-requires c κs = let s = told-full (c .before .before .before .before .before .before .before .before .before .before .before .before .before .before .before .before .before .before .before .try-negate .ensures) (c .before .before .before .before .before .before .before .before .before .enum-told .given .1) in classable _ _ _ _ _ _ _ _ (c .before .before .before .before .before .before .before .before .before .before .before .before .before .before .before .before .before .before .before .before .before .before .before .before .before .before .before .before .before .before .before .before .before .pre .buildable) (undone _ _ _ _ _ (c .before .before .before .before .before .before .before .before .before .before .before .before .before .before .before .before .before .before .before .before .before .before .before .before .before .before .before .before .before .before .before .before .before .pre .buildable .circuit) (s .left) (s .left .few) (search needs) _ (c .before .before .before .before .before .before .before .before .before .before .before .before .before .before .before .before .before .before .before .before .before .before .before .before .before .save .ensures) (c .before .before .before .before .before .before .restore .ensures) (c .before .before .before .before .before .before .restore .kept .0)) (c .before .before .before .before .before .before .before .before .before .before .before .before .before .before .before .before .before .before .before .try-negate .kept .1 .0) (c .before .before .before .before .before .before .before .before .before .before .before .before .before .before .before .before .before .before .before .try-negate .kept .1 .1 .0) (c .before .before .before .before .before .before .before .before .before .before .before .before .before .before .before .before .before .before .before .try-negate .kept .1 .1 .1 .0)
 
--- src/several.rt:114:1
 same-length : tie.Need-same-length
 same-length c = search needs
 
--- src/several.rt:114:1
 same-length-2 : tie.Need-same-length-2
 same-length-2 c = search needs
 
--- src/several.rt:114:1
 same-length-3 : tie.Need-same-length-3
 same-length-3 c = search needs
 
--- src/several.rt:114:1
 same-length-4 : tie.Need-same-length-4
 same-length-4 c = search needs
 
--- src/several.rt:114:1
 returns : tie.Need-returns
 returns c = record { told = told-at (c .before .before .before .before .before .before .before .before .before .before .before .try-negate .ensures) _ (c .before .made .given .1) }
 
--- src/several.rt:114:1
 same-length-5 : tie.Need-same-length-5
 same-length-5 c = search needs
 
--- src/several.rt:114:1
 same-length-6 : tie.Need-same-length-6
 same-length-6 c = search needs
 
--- src/several.rt:114:1
 same-length-7 : tie.Need-same-length-7
 same-length-7 c = search needs
 
--- src/several.rt:114:1
 same-length-8 : tie.Need-same-length-8
 same-length-8 c = search needs
 
--- src/several.rt:114:1
 returns-2 : tie.Need-returns-2
 returns-2 c = let s = told-full (c .before .before .before .before .before .before .before .before .before .before .before .before .before .before .before .before .before .before .before .before .before .before .before .before .before .before .try-negate .ensures) (c .before .before .before .before .before .before .before .before .before .before .before .before .before .before .before .before .enum-told .given .1) in back-step _ _ _ _ _ _ s (undone _ _ _ _ _ (c .before .before .before .before .before .before .before .before .before .before .before .before .before .before .before .before .before .before .before .before .before .before .before .before .before .before .before .before .before .before .before .before .before .before .before .before .before .before .before .before .pre .buildable .circuit) (s .left) (s .left .few) (search needs) _ (c .before .before .before .before .before .before .before .before .before .before .before .before .before .before .before .before .before .before .before .before .before .before .before .before .before .before .before .before .before .before .before .before .save .ensures) (c .before .before .before .before .before .before .before .before .before .before .before .before .before .restore .ensures) (c .before .before .before .before .before .before .before .before .before .before .before .before .before .restore .kept .0)) (c .before .before .before .before .before .before .class-anew .ensures)
 

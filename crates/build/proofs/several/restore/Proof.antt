@@ -13,71 +13,54 @@ Inv-loop m₀ saved u at n i₀ m i = Restoring m₀ saved u i m × ((at ≡ off
 abbrev μ-loop : tie.MeasureT-loop
 μ-loop m₀ saved u at n i₀ m i = n - i
 
--- src/several.rt:46:18
 mul-at : tie.Need-mul-at Inv-loop μ-loop
 mul-at c = omega arith
 
--- src/several.rt:46:14
 add-at : tie.Need-add-at Inv-loop μ-loop
 add-at c = omega arith
 
--- src/several.rt:47:19
 slice-read-n : tie.Need-slice-read-n Inv-loop μ-loop
 slice-read-n c = omega arith
 
--- src/several.rt:47:19
 sub-n : tie.Need-sub-n Inv-loop μ-loop
 sub-n c = omega arith
 
--- src/several.rt:47:13
 mul-n : tie.Need-mul-n Inv-loop μ-loop
 mul-n c = omega arith
 
--- src/several.rt:49:5
 loop-holds : tie.Need-loop-holds Inv-loop μ-loop
 loop-holds c = (restore-start _ _ _ (c .before .pre), (refl, refl))
 
--- src/several.rt:50:21
 mul-m : tie.Need-mul-m Inv-loop μ-loop
 mul-m c = omega arith
 
--- src/several.rt:50:21
 shared-slice-read-m : tie.Need-shared-slice-read-m Inv-loop μ-loop
 shared-slice-read-m c = omega arith
 
--- src/several.rt:50:11
 add-m : tie.Need-add-m Inv-loop μ-loop
 add-m c = omega arith
 
--- src/several.rt:50:9
 mul-m-2 : tie.Need-mul-m-2 Inv-loop μ-loop
 mul-m-2 c = omega arith
 
--- src/several.rt:50:9
 slice-write-m : tie.Need-slice-write-m Inv-loop μ-loop
 slice-write-m c = let l = c .before .before .loop .inv .0 .lengths in let k = c .before .before .before .before .pre .lent in omega arith
 
--- src/several.rt:51:9
 add-i : tie.Need-add-i Inv-loop μ-loop
 add-i c = omega arith
 
--- src/several.rt:49:5
 loop-less : tie.Need-loop-less Inv-loop μ-loop
 loop-less c = omega arith
 
--- src/several.rt:49:5
 loop-again : tie.Need-loop-again Inv-loop μ-loop
 loop-again c = (rw (c .before .before .loop .inv .1 .0) (restore-more _ _ _ _ _ (c .before .before .before .before .pre) (c .before .before .loop .inv .0) (omega arith)), c .before .before .loop .inv .1)
 
--- src/several.rt:53:5
 slice-write-m-2 : tie.Need-slice-write-m-2 Inv-loop μ-loop
 slice-write-m-2 c = let l = c .before .loop .inv .0 .lengths in let k = c .before .before .before .pre .lent in omega arith
 
--- src/several.rt:42:1
 same-length : tie.Need-same-length Inv-loop μ-loop
 same-length c = simp length-set (c .before .loop .inv .0 .lengths)
 
--- src/several.rt:42:1
 returns : tie.Need-returns Inv-loop μ-loop
 returns c = restore-end _ _ _ _ _ (let k = c .before .before .before .pre .lent in omega arith) (c .before .loop .inv .0) (let k = c .before .before .before .pre .less in omega arith)
 

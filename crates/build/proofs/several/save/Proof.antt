@@ -12,71 +12,54 @@ Inv-loop m saved₀ at i₀ saved i = Saving m saved₀ at i saved
 abbrev μ-loop : tie.MeasureT-loop
 μ-loop m saved₀ at i₀ saved i = length saved₀ - i
 
--- src/several.rt:30:23
 shared-slice-read-at : tie.Need-shared-slice-read-at Inv-loop μ-loop
 shared-slice-read-at c = omega arith
 
--- src/several.rt:30:18
 mul-at : tie.Need-mul-at Inv-loop μ-loop
 mul-at c = omega arith
 
--- src/several.rt:30:14
 add-at : tie.Need-add-at Inv-loop μ-loop
 add-at c = omega arith
 
--- src/several.rt:32:5
 loop-holds : tie.Need-loop-holds Inv-loop μ-loop
 loop-holds c = record { lengths = refl; place = refl; most = omega arith; lent = omega arith; each = λ j l. absurd (omega arith) }
 
--- src/several.rt:33:12
 sub-if1 : tie.Need-sub-if1 Inv-loop μ-loop
 sub-if1 c = omega arith
 
--- src/several.rt:34:13
 same-length : tie.Need-same-length Inv-loop μ-loop
 same-length c = omega arith
 
--- src/several.rt:34:13
 returns : tie.Need-returns Inv-loop μ-loop
 returns c = record { each = λ j l k. c .before .before .loop .inv .each j (let q = c .before .before .loop .inv .place in omega arith) }
 
--- src/several.rt:36:22
 add-saved : tie.Need-add-saved Inv-loop μ-loop
 add-saved c = omega arith
 
--- src/several.rt:36:20
 mul-saved : tie.Need-mul-saved Inv-loop μ-loop
 mul-saved c = omega arith
 
--- src/several.rt:36:20
 shared-slice-read-saved : tie.Need-shared-slice-read-saved Inv-loop μ-loop
 shared-slice-read-saved c = omega arith
 
--- src/several.rt:36:9
 mul-saved-2 : tie.Need-mul-saved-2 Inv-loop μ-loop
 mul-saved-2 c = omega arith
 
--- src/several.rt:36:9
 slice-write-saved : tie.Need-slice-write-saved Inv-loop μ-loop
 slice-write-saved c = omega arith
 
--- src/several.rt:37:9
 add-i : tie.Need-add-i Inv-loop μ-loop
 add-i c = omega arith
 
--- src/several.rt:32:5
 loop-less : tie.Need-loop-less Inv-loop μ-loop
 loop-less c = omega arith
 
--- src/several.rt:32:5
 loop-again : tie.Need-loop-again Inv-loop μ-loop
 loop-again c = save-more _ _ _ _ _ (c .before .before .before .loop .inv) (omega arith) (omega arith)
 
--- src/several.rt:26:1
 same-length-2 : tie.Need-same-length-2 Inv-loop μ-loop
 same-length-2 c = omega arith
 
--- src/several.rt:26:1
 returns-2 : tie.Need-returns-2 Inv-loop μ-loop
 returns-2 c = record { each = λ j l k. c .before .loop .inv .each j (omega arith) }
 

@@ -4,59 +4,45 @@ use borrow.Author.Needs.{needs}
 use Rattle.build.proofs.several.try_subtract.Statement.{statement}
 use Rattle.build.proofs.several.try_subtract.Tie as tie
 
--- src/several.rt:84:9
 try-negate-requires : tie.Need-try-negate-requires
 try-negate-requires c κs = search needs
 
--- src/several.rt:86:18
 enum-known-minus : tie.Need-enum-known-minus
 enum-known-minus c = search needs
 
--- src/several.rt:86:24
 operate-requires : tie.Need-operate-requires
 operate-requires c κs = subtract-operable _ _ _ _ _ _ _ _ (told-at (c .before .before .before .before .before .before .before .before .before .before .before .before .before .before .before .try-negate .ensures) _ (c .before .before .before .before .before .minus .given .1)) (c .before .before .before .before .before .before .before .before .before .before .before .before .before .before .before .before .before .before .before .before .before .before .before .before .pre .left)
 
--- src/several.rt:87:23
 enum-told : tie.Need-enum-told
 enum-told c = search needs
 
--- src/several.rt:80:1
 same-length : tie.Need-same-length
 same-length c = search needs
 
--- src/several.rt:80:1
 same-length-2 : tie.Need-same-length-2
 same-length-2 c = search needs
 
--- src/several.rt:80:1
 same-length-3 : tie.Need-same-length-3
 same-length-3 c = search needs
 
--- src/several.rt:80:1
 same-length-4 : tie.Need-same-length-4
 same-length-4 c = search needs
 
--- src/several.rt:80:1
 returns : tie.Need-returns
 returns c = subtract-then _ _ _ _ _ _ _ _ (told-at (c .before .before .before .before .before .before .before .before .before .before .before .before .before .before .before .before .before .before .before .before .before .before .before .before .try-negate .ensures) _ (c .before .before .before .before .before .before .before .before .before .before .before .before .before .before .minus .given .1)) _ _ _ _ _ (c .before .before .before .before .before .before .before .before .operate .ensures)
 
--- src/several.rt:80:1
 same-length-5 : tie.Need-same-length-5
 same-length-5 c = search needs
 
--- src/several.rt:80:1
 same-length-6 : tie.Need-same-length-6
 same-length-6 c = search needs
 
--- src/several.rt:80:1
 same-length-7 : tie.Need-same-length-7
 same-length-7 c = search needs
 
--- src/several.rt:80:1
 same-length-8 : tie.Need-same-length-8
 same-length-8 c = search needs
 
--- src/several.rt:80:1
 returns-2 : tie.Need-returns-2
 returns-2 c = subtract-stops _ _ _ _ _ _ _ (told-full (c .before .before .before .before .before .before .before .before .before .before .try-negate .ensures) (c .enum-told .given .1))
 

@@ -3,59 +3,45 @@ use borrow.Author.Needs.{needs}
 use Rattle.build.proofs.steps.either_order.Statement.{statement}
 use Rattle.build.proofs.steps.either_order.Tie as tie
 
--- src/steps.rt:57:9
 find-requires : tie.Need-find-requires
 find-requires c κs = swapped-findable _ _ _ _ _ _ _ (c .before .before .before .before .before .before .before .before .pre)
 
--- src/steps.rt:59:19
 enum-known-found : tie.Need-enum-known-found
 enum-known-found c = search needs
 
--- src/steps.rt:60:40
 enum-told : tie.Need-enum-told
 enum-told c = search needs
 
--- src/steps.rt:60:27
 find-or-make-requires : tie.Need-find-or-make-requires
 find-or-make-requires c κs = operation-makable _ _ _ _ _ _ _ (c .before .before .before .before .before .before .before .before .before .before .before .before .before .before .before .pre)
 
--- src/steps.rt:53:1
 same-length : tie.Need-same-length
 same-length c = search needs
 
--- src/steps.rt:53:1
 same-length-2 : tie.Need-same-length-2
 same-length-2 c = search needs
 
--- src/steps.rt:53:1
 same-length-3 : tie.Need-same-length-3
 same-length-3 c = search needs
 
--- src/steps.rt:53:1
 same-length-4 : tie.Need-same-length-4
 same-length-4 c = search needs
 
--- src/steps.rt:53:1
 returns : tie.Need-returns
 returns c = swapped-here _ _ _ _ _ _ _ (c .before .before .before .before .before .before .before .before .before .before .before .before .pre) _ (c .before .before .before .find .ensures) _ (c .before .found .given .1)
 
--- src/steps.rt:53:1
 same-length-5 : tie.Need-same-length-5
 same-length-5 c = search needs
 
--- src/steps.rt:53:1
 same-length-6 : tie.Need-same-length-6
 same-length-6 c = search needs
 
--- src/steps.rt:53:1
 same-length-7 : tie.Need-same-length-7
 same-length-7 c = search needs
 
--- src/steps.rt:53:1
 same-length-8 : tie.Need-same-length-8
 same-length-8 c = search needs
 
--- src/steps.rt:53:1
 returns-2 : tie.Need-returns-2
 returns-2 c = step-of (swapped-none _ _ _ _ _ _ _ (c .before .before .before .before .before .before .before .before .before .before .before .before .before .before .before .before .before .before .before .before .before .before .before .before .pre) _ (c .before .before .before .before .before .before .before .before .before .before .before .before .before .before .before .find .ensures) (c .before .before .before .before .before .before .before .before .before .before .before .before .before .enum-told .given .1)) (c .before .before .before .before .before .before .before .before .find-or-make .ensures)
 

@@ -5,51 +5,39 @@ use borrow.Author.Needs.{needs}
 use Rattle.build.proofs.steps.make_node.Statement.{statement}
 use Rattle.build.proofs.steps.make_node.Tie as tie
 
--- src/steps.rt:37:13
 slice-read-u : tie.Need-slice-read-u
 slice-read-u c = valid-length _ (c .before .before .before .before .before .pre .buildable .circuit)
 
--- src/steps.rt:38:18
 add-needed : tie.Need-add-needed
 add-needed c = let t = header-top _ (valid-header _ (c .before .before .before .before .before .pre .buildable .circuit)) in omega arith
 
--- src/steps.rt:39:8
 limit-of-requires : tie.Need-limit-of-requires
 limit-of-requires c κs = search needs
 
--- src/steps.rt:40:9
 same-length : tie.Need-same-length
 same-length c = search needs
 
--- src/steps.rt:40:9
 returns : tie.Need-returns
 returns c = no-place _ _ _ _ _ (c .before .before .before .before .before .before .before .before .pre) (rw (c .before .limit-of .ensures) at (c .if1 .taken))
 
--- src/steps.rt:42:5
 make-requires : tie.Need-make-requires
 make-requires c κs = search needs
 
--- src/steps.rt:43:5
 join-requires : tie.Need-join-requires
 join-requires c κs = joins _ _ _ _ _ (c .before .before .before .before .before .before .before .before .before .before .before .before .before .before .before .before .pre) (let l = c .before .before .before .before .before .before .before .before .before .limit-of .ensures in let t = c .before .before .before .before .before .before .before .before .if1 .left in omega arith) _ (c .before .before .before .before .before .before .make .ensures)
 
--- src/steps.rt:27:1
 same-length-2 : tie.Need-same-length-2
 same-length-2 c = search needs
 
--- src/steps.rt:27:1
 same-length-3 : tie.Need-same-length-3
 same-length-3 c = search needs
 
--- src/steps.rt:27:1
 same-length-4 : tie.Need-same-length-4
 same-length-4 c = search needs
 
--- src/steps.rt:27:1
 same-length-5 : tie.Need-same-length-5
 same-length-5 c = search needs
 
--- src/steps.rt:27:1
 returns-2 : tie.Need-returns-2
 returns-2 c = made-step _ _ _ _ _ (c .before .before .before .before .before .before .before .before .before .before .before .before .before .before .before .before .before .before .before .before .before .before .before .pre) (let l = c .before .before .before .before .before .before .before .before .before .before .before .before .before .before .before .before .limit-of .ensures in let t = c .before .before .before .before .before .before .before .before .before .before .before .before .before .before .before .if1 .left in omega arith) _ (c .before .before .before .before .before .before .before .before .before .before .before .before .before .make .ensures) _ _ _ (c .before .before .before .before .before .before .join .ensures)
 

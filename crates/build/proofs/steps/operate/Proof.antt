@@ -4,47 +4,36 @@ use borrow.Author.Needs.{needs}
 use Rattle.build.proofs.steps.operate.Statement.{statement}
 use Rattle.build.proofs.steps.operate.Tie as tie
 
--- src/steps.rt:85:9
 simplified-requires : tie.Need-simplified-requires
 simplified-requires c κs = (valid-fits _ (c .before .before .before .before .before .pre .buildable .circuit) _ (c .before .before .before .before .before .pre .left), valid-fits _ (c .before .before .before .before .before .pre .buildable .circuit) _ (c .before .before .before .before .before .pre .right))
 
--- src/steps.rt:87:19
 enum-known-simple : tie.Need-enum-known-simple
 enum-known-simple c = search needs
 
--- src/steps.rt:88:35
 enum-told : tie.Need-enum-told
 enum-told c = search needs
 
--- src/steps.rt:88:27
 folding-requires : tie.Need-folding-requires
 folding-requires c κs = search needs
 
--- src/steps.rt:81:1
 same-length : tie.Need-same-length
 same-length c = search needs
 
--- src/steps.rt:81:1
 returns : tie.Need-returns
 returns c = simple-here _ _ _ _ _ _ _ (c .before .before .before .before .before .before .before .before .before .pre) _ (c .before .before .before .simplified .ensures) _ (c .before .simple .given .1)
 
--- src/steps.rt:81:1
 same-length-2 : tie.Need-same-length-2
 same-length-2 c = search needs
 
--- src/steps.rt:81:1
 same-length-3 : tie.Need-same-length-3
 same-length-3 c = search needs
 
--- src/steps.rt:81:1
 same-length-4 : tie.Need-same-length-4
 same-length-4 c = search needs
 
--- src/steps.rt:81:1
 same-length-5 : tie.Need-same-length-5
 same-length-5 c = search needs
 
--- src/steps.rt:81:1
 returns-2 : tie.Need-returns-2
 returns-2 c = step-of (simple-none _ _ _ _ _ _ _ (c .before .before .before .before .before .before .before .before .before .before .before .before .before .before .before .before .before .before .before .before .before .pre) _ (c .before .before .before .before .before .before .before .before .before .before .before .before .before .before .before .simplified .ensures) (c .before .before .before .before .before .before .before .before .before .before .before .before .before .enum-told .given .1)) (c .before .before .before .before .before .before .before .before .folding .ensures)
 

@@ -2,19 +2,15 @@ use borrow.Author.Needs.{needs}
 use Rattle.build_calls.proofs.calls.answered.Statement.{statement}
 use Rattle.build_calls.proofs.calls.answered.Tie as tie
 
--- src/calls.rt:50:18
 enum-known-made : tie.Need-enum-known-made
 enum-known-made c = search needs
 
--- src/calls.rt:51:23
 enum-told : tie.Need-enum-told
 enum-told c = search needs
 
--- src/calls.rt:46:1
 returns : tie.Need-returns
 returns c = rw (c .before .made .given .1)
 
--- src/calls.rt:46:1
 returns-2 : tie.Need-returns-2
 returns-2 c = search needs
 

@@ -6,49 +6,38 @@ use borrow.Author.Needs.{needs}
 use Rattle.build_calls.proofs.calls.challenge.Statement.{statement}
 use Rattle.build_calls.proofs.calls.challenge.Tie as tie
 
--- src/calls.rt:114:18
 slice-aggregate-check : tie.Need-slice-aggregate-check
 slice-aggregate-check c = search needs
 
--- src/calls.rt:114:30
 slice-aggregate-check-2 : tie.Need-slice-aggregate-check-2
 slice-aggregate-check-2 c = search needs
 
--- src/calls.rt:114:9
 check-requires : tie.Need-check-requires
 check-requires c κs = search needs
 
--- src/calls.rt:115:9
 same-length : tie.Need-same-length
 same-length c = search needs
 
--- src/calls.rt:115:9
 returns : tie.Need-returns
 unfolding challengeCall
 returns c = sym (no-circuit _ _ _ (refuses _ _ (c .before .before .before .check .ensures .told) (c .if1 .taken)))
 
--- src/calls.rt:117:8
 bad-index-requires : tie.Need-bad-index-requires
 bad-index-requires c κs = search needs
 
--- src/calls.rt:118:9
 same-length-2 : tie.Need-same-length-2
 same-length-2 c = search needs
 
--- src/calls.rt:118:9
 returns-2 : tie.Need-returns-2
 unfolding challengeCall
 returns-2 c = sym (refuses-by _ _ _ 3 (checked _ _ _ _ (c .before .before .before .before .before .check .ensures) (c .before .before .if1 .left)) (refusal-here 4 _ _ (sym (c .before .bad-index .ensures) ∙ c .if2 .taken)))
 
--- src/calls.rt:120:5
 leaf-requires : tie.Need-leaf-requires
 leaf-requires c κs = record { circuit = checked _ _ _ _ (c .before .before .before .before .before .before .check .ensures) (c .before .before .before .if1 .left); leaf = refl }
 
--- src/calls.rt:109:1
 same-length-3 : tie.Need-same-length-3
 same-length-3 c = search needs
 
--- src/calls.rt:109:1
 returns-3 : tie.Need-returns-3
 unfolding challengeCall
 returns-3 c = c .before .before .leaf .ensures ∙ sym (only-full _ _ _ (checked _ _ _ _ (c .before .before .before .before .before .before .before .before .before .check .ensures) (c .before .before .before .before .before .before .if1 .left)) (refusal-next 4 _ _ (sym (c .before .before .before .before .before .bad-index .ensures) ∙ c .before .before .before .before .if2 .left)))

@@ -7,53 +7,41 @@ use borrow.Author.Needs.{needs}
 use Rattle.build_calls.proofs.calls.extension_constant.Statement.{statement}
 use Rattle.build_calls.proofs.calls.extension_constant.Tie as tie
 
--- src/calls.rt:162:18
 slice-aggregate-check : tie.Need-slice-aggregate-check
 slice-aggregate-check c = search needs
 
--- src/calls.rt:162:30
 slice-aggregate-check-2 : tie.Need-slice-aggregate-check-2
 slice-aggregate-check-2 c = search needs
 
--- src/calls.rt:162:9
 check-requires : tie.Need-check-requires
 check-requires c κs = search needs
 
--- src/calls.rt:163:9
 same-length : tie.Need-same-length
 same-length c = search needs
 
--- src/calls.rt:163:9
 returns : tie.Need-returns
 unfolding extensionCall
 returns c = sym (no-circuit _ _ _ (refuses _ _ (c .before .before .before .check .ensures .told) (c .if1 .taken)))
 
--- src/calls.rt:165:8
 bad-words-requires : tie.Need-bad-words-requires
 bad-words-requires c κs = search needs
 
--- src/calls.rt:166:9
 same-length-2 : tie.Need-same-length-2
 same-length-2 c = search needs
 
--- src/calls.rt:166:9
 returns-2 : tie.Need-returns-2
 unfolding extensionCall
 returns-2 c = sym (refuses-by _ _ _ 4 (checked _ _ _ _ (c .before .before .before .before .before .check .ensures) (c .before .before .if1 .left)) (refusal-here 5 _ _ (sym (c .before .bad-words .ensures) ∙ c .if2 .taken)))
 
--- src/calls.rt:168:45
 constant-requires : tie.Need-constant-requires
 constant-requires c κs = search needs
 
--- src/calls.rt:168:5
 leaf-requires : tie.Need-leaf-requires
 leaf-requires c κs = record { circuit = checked _ _ _ _ (c .before .before .before .before .before .before .before .check .ensures) (c .before .before .before .before .if1 .left); leaf = rw (c .constant .ensures) (constant-leaf _) }
 
--- src/calls.rt:157:1
 same-length-3 : tie.Need-same-length-3
 same-length-3 c = search needs
 
--- src/calls.rt:157:1
 returns-3 : tie.Need-returns-3
 unfolding extensionCall
 returns-3 c = rw (c .before .before .before .constant .ensures) at (c .before .before .leaf .ensures) ∙ sym (only-full _ _ _ (checked _ _ _ _ (c .before .before .before .before .before .before .before .before .before .before .check .ensures) (c .before .before .before .before .before .before .before .if1 .left)) (refusal-next 5 _ _ (sym (c .before .before .before .before .before .before .bad-words .ensures) ∙ c .before .before .before .before .before .if2 .left)))

@@ -3,47 +3,36 @@ use borrow.Author.Needs.{needs}
 use Rattle.build_calls.proofs.calls.granted.Statement.{statement}
 use Rattle.build_calls.proofs.calls.granted.Tie as tie
 
--- src/calls.rt:75:34
 slice-aggregate-class-tables : tie.Need-slice-aggregate-class-tables
 slice-aggregate-class-tables c = search needs
 
--- src/calls.rt:75:48
 slice-aggregate-class-tables-2 : tie.Need-slice-aggregate-class-tables-2
 slice-aggregate-class-tables-2 c = search needs
 
--- src/calls.rt:75:60
 slice-aggregate-class-tables-3 : tie.Need-slice-aggregate-class-tables-3
 slice-aggregate-class-tables-3 c = search needs
 
--- src/calls.rt:75:5
 class-tables-requires : tie.Need-class-tables-requires
 class-tables-requires c κs = tables-fillable _ _ _ _ _ _ (c .before .before .before .before .before .before .before .pre .ranked) (record { numbers = search needs; keys = search needs }) (search needs)
 
--- src/calls.rt:76:22
 slice-aggregate-step : tie.Need-slice-aggregate-step
 slice-aggregate-step c = search needs
 
--- src/calls.rt:76:36
 slice-aggregate-step-2 : tie.Need-slice-aggregate-step-2
 slice-aggregate-step-2 c = search needs
 
--- src/calls.rt:76:48
 slice-aggregate-step-3 : tie.Need-slice-aggregate-step-3
 slice-aggregate-step-3 c = search needs
 
--- src/calls.rt:76:14
 step-requires : tie.Need-step-requires
 step-requires c κs = search needs
 
--- src/calls.rt:76:5
 answered-requires : tie.Need-answered-requires
 answered-requires c κs = search needs
 
--- src/calls.rt:68:1
 same-length : tie.Need-same-length
 same-length c = search needs
 
--- src/calls.rt:68:1
 returns : tie.Need-returns
 returns c = ends _ _ _ _ _ _ _ _ (c .answered .ensures) (c .before .before .before .before .before .before .step .ensures)
 

@@ -3,47 +3,36 @@ use borrow.Author.Needs.{needs}
 use Rattle.build_calls.proofs.calls.granted_sum.Statement.{statement}
 use Rattle.build_calls.proofs.calls.granted_sum.Tie as tie
 
--- src/calls.rt:86:34
 slice-aggregate-class-tables : tie.Need-slice-aggregate-class-tables
 slice-aggregate-class-tables c = search needs
 
--- src/calls.rt:86:48
 slice-aggregate-class-tables-2 : tie.Need-slice-aggregate-class-tables-2
 slice-aggregate-class-tables-2 c = search needs
 
--- src/calls.rt:86:60
 slice-aggregate-class-tables-3 : tie.Need-slice-aggregate-class-tables-3
 slice-aggregate-class-tables-3 c = search needs
 
--- src/calls.rt:86:5
 class-tables-requires : tie.Need-class-tables-requires
 class-tables-requires c κs = tables-fillable _ _ _ _ _ _ (c .before .before .before .before .before .before .before .before .pre .ranked) (record { numbers = search needs; keys = search needs }) (search needs)
 
--- src/calls.rt:87:30
 slice-aggregate-sum : tie.Need-slice-aggregate-sum
 slice-aggregate-sum c = search needs
 
--- src/calls.rt:87:44
 slice-aggregate-sum-2 : tie.Need-slice-aggregate-sum-2
 slice-aggregate-sum-2 c = search needs
 
--- src/calls.rt:87:56
 slice-aggregate-sum-3 : tie.Need-slice-aggregate-sum-3
 slice-aggregate-sum-3 c = search needs
 
--- src/calls.rt:87:14
 sum-requires : tie.Need-sum-requires
 sum-requires c κs = search needs
 
--- src/calls.rt:87:5
 answered-requires : tie.Need-answered-requires
 answered-requires c κs = search needs
 
--- src/calls.rt:79:1
 same-length : tie.Need-same-length
 same-length c = search needs
 
--- src/calls.rt:79:1
 returns : tie.Need-returns
 returns c = ends _ _ _ _ _ _ _ _ (c .answered .ensures) (c .before .before .before .before .before .before .sum .ensures)
 

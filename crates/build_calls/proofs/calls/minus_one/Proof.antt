@@ -3,15 +3,12 @@ use borrow.Author.Needs.{needs}
 use Rattle.build_calls.proofs.calls.minus_one.Statement.{statement}
 use Rattle.build_calls.proofs.calls.minus_one.Tie as tie
 
--- src/calls.rt:153:5
 base-constant-requires : tie.Need-base-constant-requires
 base-constant-requires c κs = search needs
 
--- src/calls.rt:150:1
 same-length : tie.Need-same-length
 same-length c = search needs
 
--- src/calls.rt:150:1
 returns : tie.Need-returns
 unfolding minusOneCall
 returns c = c .before .before .base-constant .ensures

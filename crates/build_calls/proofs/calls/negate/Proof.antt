@@ -4,15 +4,12 @@ use borrow.Author.Needs.{needs}
 use Rattle.build_calls.proofs.calls.negate.Statement.{statement}
 use Rattle.build_calls.proofs.calls.negate.Tie as tie
 
--- src/calls.rt:208:5
 on-nodes-requires : tie.Need-on-nodes-requires
 on-nodes-requires c κs = search needs
 
--- src/calls.rt:205:1
 same-length : tie.Need-same-length
 same-length c = search needs
 
--- src/calls.rt:205:1
 returns : tie.Need-returns
 unfolding negateCall
 returns c = rw (one-twice (c .before .before .before .before .before .args .m .now) (c .before .before .before .before .before .args .a)) at (c .before .before .on-nodes .ensures)

@@ -3,15 +3,12 @@ use borrow.Author.Needs.{needs}
 use Rattle.build_calls.proofs.calls.one.Statement.{statement}
 use Rattle.build_calls.proofs.calls.one.Tie as tie
 
--- src/calls.rt:147:5
 base-constant-requires : tie.Need-base-constant-requires
 base-constant-requires c κs = search needs
 
--- src/calls.rt:144:1
 same-length : tie.Need-same-length
 same-length c = search needs
 
--- src/calls.rt:144:1
 returns : tie.Need-returns
 unfolding oneCall
 returns c = c .before .before .base-constant .ensures

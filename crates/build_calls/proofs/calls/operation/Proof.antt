@@ -3,15 +3,12 @@ use borrow.Author.Needs.{needs}
 use Rattle.build_calls.proofs.calls.operation.Statement.{statement}
 use Rattle.build_calls.proofs.calls.operation.Tie as tie
 
--- src/calls.rt:194:5
 on-nodes-requires : tie.Need-on-nodes-requires
 on-nodes-requires c κs = search needs
 
--- src/calls.rt:191:1
 same-length : tie.Need-same-length
 same-length c = search needs
 
--- src/calls.rt:191:1
 returns : tie.Need-returns
 unfolding operationCall
 returns c = c .before .before .on-nodes .ensures

@@ -9,66 +9,51 @@ use borrow.Author.Needs.{needs}
 use Rattle.build_calls.proofs.calls.sum.Statement.{statement}
 use Rattle.build_calls.proofs.calls.sum.Tie as tie
 
--- src/calls.rt:233:18
 slice-aggregate-check : tie.Need-slice-aggregate-check
 slice-aggregate-check c = search needs
 
--- src/calls.rt:233:30
 slice-aggregate-check-2 : tie.Need-slice-aggregate-check-2
 slice-aggregate-check-2 c = search needs
 
--- src/calls.rt:233:9
 check-requires : tie.Need-check-requires
 check-requires c κs = search needs
 
--- src/calls.rt:234:9
 same-length : tie.Need-same-length
 same-length c = search needs
 
--- src/calls.rt:234:9
 returns : tie.Need-returns
 unfolding sumCall
 returns c = sym (no-circuit _ _ _ (refuses _ _ (c .before .before .before .check .ensures .told) (c .if1 .taken)))
 
--- src/calls.rt:236:8
 bad-id-requires : tie.Need-bad-id-requires
 bad-id-requires c κs = valid-length _ (checked _ _ _ _ (c .before .before .before .before .check .ensures) (c .before .if1 .left))
 
--- src/calls.rt:237:9
 same-length-2 : tie.Need-same-length-2
 same-length-2 c = search needs
 
--- src/calls.rt:237:9
 returns-2 : tie.Need-returns-2
 unfolding sumCall
 returns-2 c = sym (refuses-by _ _ _ 1 (checked _ _ _ _ (c .before .before .before .before .before .before .check .ensures) (c .before .before .before .if1 .left)) (refusal-here 2 _ _ (sym (c .before .bad-id .ensures) ∙ c .if2 .taken)))
 
--- src/calls.rt:240:9
 same-length-3 : tie.Need-same-length-3
 same-length-3 c = search needs
 
--- src/calls.rt:240:9
 returns-3 : tie.Need-returns-3
 unfolding sumCall
 returns-3 c = sym (refuses-by _ _ _ 6 (checked _ _ _ _ (c .before .before .before .before .before .before .before .check .ensures) (c .before .before .before .before .if1 .left)) (refusal-next 2 _ _ (sym (c .before .before .bad-id .ensures) ∙ c .before .if2 .left) ∙ refusal-here 7 _ _ (eq-eqb _ _ (c .if3 .taken))))
 
--- src/calls.rt:242:20
 slice-aggregate-granted-sum : tie.Need-slice-aggregate-granted-sum
 slice-aggregate-granted-sum c = search needs
 
--- src/calls.rt:242:28
 slice-aggregate-granted-sum-2 : tie.Need-slice-aggregate-granted-sum-2
 slice-aggregate-granted-sum-2 c = search needs
 
--- src/calls.rt:242:5
 granted-sum-requires : tie.Need-granted-sum-requires
 granted-sum-requires c κs = record { ranked = ranked _ _ _ _ (c .before .before .before .before .before .before .before .before .before .before .check .ensures) (c .before .before .before .before .before .before .before .if1 .left) (search needs); some = omega arith; below = sym (c .before .before .before .before .before .bad-id .ensures) ∙ c .before .before .before .before .if2 .left }
 
--- src/calls.rt:228:1
 same-length-4 : tie.Need-same-length-4
 same-length-4 c = search needs
 
--- src/calls.rt:228:1
 returns-4 : tie.Need-returns-4
 unfolding sumCall
 returns-4 c = c .before .before .granted-sum .ensures ∙ sym (only-full _ _ _ (checked _ _ _ _ (c .before .before .before .before .before .before .before .before .before .before .before .before .before .check .ensures) (c .before .before .before .before .before .before .before .before .before .before .if1 .left)) (refusal-next 2 _ _ (sym (c .before .before .before .before .before .before .before .before .bad-id .ensures) ∙ c .before .before .before .before .before .before .before .if2 .left) ∙ refusal-next 7 _ _ (ne-eqb _ _ (c .before .before .before .before .before .before .if3 .left))))

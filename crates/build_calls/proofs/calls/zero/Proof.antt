@@ -3,15 +3,12 @@ use borrow.Author.Needs.{needs}
 use Rattle.build_calls.proofs.calls.zero.Statement.{statement}
 use Rattle.build_calls.proofs.calls.zero.Tie as tie
 
--- src/calls.rt:141:5
 base-constant-requires : tie.Need-base-constant-requires
 base-constant-requires c κs = search needs
 
--- src/calls.rt:138:1
 same-length : tie.Need-same-length
 same-length c = search needs
 
--- src/calls.rt:138:1
 returns : tie.Need-returns
 unfolding zeroCall
 returns c = c .before .before .base-constant .ensures

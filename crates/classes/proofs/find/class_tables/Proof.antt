@@ -7,27 +7,21 @@ use Rattle.classes.proofs.find.class_tables.Lts as lts
 use Rattle.classes.proofs.least.list_registered.Reads as list-registered-reads
 use Rattle.classes.proofs.numbers.number_all.Reads as number-all-reads
 
--- src/find.rt:30:5
 number-all-requires : tie.Need-number-all-requires
 number-all-requires c κs = search needs
 
--- src/find.rt:31:5
 list-registered-requires : tie.Need-list-registered-requires
 list-registered-requires c κs = (c .before .before .before .before .before .before .before .before .before .before .before .before .before .before .before .pre .orderly .circuit, numbers-inside _ _ _ (c .before .before .before .before .before .before .before .before .before .before .before .before .before .before .before .pre .orderly .circuit) (c .before .before .before .before .before .before .number-all .ensures) _ _ _ _ _ (c .before .before .before .before .before .before .before .before .before .before .before .before .before .before .before .pre) (c .before .before .before .before .before .before .number-all .kept .1 .1 .1 .0))
 
--- src/find.rt:26:1
 same-length : tie.Need-same-length
 same-length c = search needs
 
--- src/find.rt:26:1
 same-length-2 : tie.Need-same-length-2
 same-length-2 c = search needs
 
--- src/find.rt:26:1
 same-length-3 : tie.Need-same-length-3
 same-length-3 c = search needs
 
--- src/find.rt:26:1
 returns : tie.Need-returns
 returns c = search needs
 

@@ -9,31 +9,24 @@ use Rattle.classes.proofs.find.classes.Lts as lts
 use Rattle.classes.proofs.least.least_ids.Reads as least-ids-reads
 use Rattle.classes.proofs.numbers.number_all.Reads as number-all-reads
 
--- src/find.rt:20:5
 number-all-requires : tie.Need-number-all-requires
 number-all-requires c κs = search needs
 
--- src/find.rt:21:13
 shared-slice-read-n : tie.Need-shared-slice-read-n
 shared-slice-read-n c = let h = valid-length _ (c .before .before .before .before .before .before .before .before .before .before .before .before .before .before .pre .orderly .circuit) in omega arith
 
--- src/find.rt:22:5
 least-ids-requires : tie.Need-least-ids-requires
 least-ids-requires c κs = numbers-inside _ _ _ (c .before .before .before .before .before .before .before .before .before .before .before .before .before .before .before .before .pre .orderly .circuit) (c .before .before .before .before .before .before .before .number-all .ensures) _ _ _ _ _ (c .before .before .before .before .before .before .before .before .before .before .before .before .before .before .before .before .pre) (c .before .before .before .before .before .before .before .number-all .kept .1 .1 .1 .0)
 
--- src/find.rt:16:1
 same-length : tie.Need-same-length
 same-length c = search needs
 
--- src/find.rt:16:1
 same-length-2 : tie.Need-same-length-2
 same-length-2 c = search needs
 
--- src/find.rt:16:1
 same-length-3 : tie.Need-same-length-3
 same-length-3 c = search needs
 
--- src/find.rt:16:1
 returns : tie.Need-returns
 returns c = lowered-class _ _ _ (c .before .before .before .before .before .before .before .before .before .before .before .before .before .before .before .before .before .before .before .before .before .pre .orderly .circuit) (c .before .before .before .before .before .before .before .before .before .before .before .before .number-all .ensures) _ (c .before .before .before .before .least-ids .ensures)
 

@@ -10,35 +10,27 @@ use Rattle.classes.proofs.find.find.Lts as lts
 use Rattle.classes.proofs.numbers.key_of.Reads as key-of-reads
 use Rattle.classes.proofs.table.seek.Reads as seek-reads
 
--- src/find.rt:25:25
 key-of-requires : tie.Need-key-of-requires
 key-of-requires c κs = search needs
 
--- src/find.rt:25:9
 seek-requires : tie.Need-seek-requires
 seek-requires c κs = search needs
 
--- src/find.rt:27:9
 returns : tie.Need-returns
 returns c = find-none _ _ _ _ _ (c .before .before .before .before .before .before .before .pre) _ (c .if1 .taken) (rw (c .before .before .key-of .ensures) at (c .before .seek .ensures))
 
--- src/find.rt:30:13
 mul-i : tie.Need-mul-i
 mul-i c = let h = find-inside _ _ _ _ _ (c .before .before .before .before .before .before .before .pre) _ (c .if1 .left) (rw (c .before .before .key-of .ensures) at (c .before .seek .ensures)) in omega arith
 
--- src/find.rt:30:13
 shared-slice-read-i : tie.Need-shared-slice-read-i
 shared-slice-read-i c = let h = find-inside _ _ _ _ _ (c .before .before .before .before .before .before .before .before .pre) _ (c .before .if1 .left) (rw (c .before .before .before .key-of .ensures) at (c .before .before .seek .ensures)) in omega arith
 
--- src/find.rt:32:9
 returns-2 : tie.Need-returns-2
 returns-2 c = slot-none _ (c .if2 .taken) ∙ find-slot _ _ _ _ _ (c .before .before .before .before .before .before .before .before .before .pre) _ (c .before .before .if1 .left) (rw (c .before .before .before .before .key-of .ensures) at (c .before .before .before .seek .ensures))
 
--- src/find.rt:34:15
 sub-t13 : tie.Need-sub-t13
 sub-t13 c = search needs
 
--- src/find.rt:21:1
 returns-3 : tie.Need-returns-3
 returns-3 c = slot-at _ (c .if2 .left) ∙ find-slot _ _ _ _ _ (c .before .before .before .before .before .before .before .before .before .pre) _ (c .before .before .if1 .left) (rw (c .before .before .before .before .key-of .ensures) at (c .before .before .before .seek .ensures))
 

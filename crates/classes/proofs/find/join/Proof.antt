@@ -10,39 +10,30 @@ use Rattle.classes.proofs.least.note.Reads as note-reads
 use Rattle.classes.proofs.numbers.enter_one.Reads as enter-one-reads
 use Rattle.classes.proofs.numbers.number_at.Reads as number-at-reads
 
--- src/find.rt:42:13
 shared-slice-read-i : tie.Need-shared-slice-read-i
 shared-slice-read-i c = let h = valid-length _ (c .before .before .before .before .before .pre .circuit) in omega arith
 
--- src/find.rt:42:13
 sub-i : tie.Need-sub-i
 sub-i c = search needs
 
--- src/find.rt:43:5
 enter-one-requires : tie.Need-enter-one-requires
 enter-one-requires c κs = join-enterable _ _ _ _ (c .before .before .before .before .before .before .before .pre)
 
--- src/find.rt:44:17
 number-at-requires : tie.Need-number-at-requires
 number-at-requires c κs = search needs
 
--- src/find.rt:44:5
 note-requires : tie.Need-note-requires
 note-requires c κs = rw (c .number-at .ensures) (join-inside _ _ _ _ (c .before .before .before .before .before .before .before .before .before .before .before .before .before .before .before .pre) _ _ (c .before .before .before .before .before .before .before .enter-one .ensures))
 
--- src/find.rt:38:1
 same-length : tie.Need-same-length
 same-length c = search needs
 
--- src/find.rt:38:1
 same-length-2 : tie.Need-same-length-2
 same-length-2 c = search needs
 
--- src/find.rt:38:1
 same-length-3 : tie.Need-same-length-3
 same-length-3 c = search needs
 
--- src/find.rt:38:1
 returns : tie.Need-returns
 returns c = join-all _ _ _ _ (c .before .before .before .before .before .before .before .before .before .before .before .before .before .before .before .before .before .before .pre) _ _ (c .before .before .before .before .before .before .before .before .before .before .enter-one .ensures) _ _ (c .before .before .before .number-at .ensures) (c .before .before .note .ensures) (c .before .before .before .before .before .before .before .before .before .before .enter-one .kept .1 .1 .0) (c .before .before .before .before .before .before .before .before .before .before .enter-one .kept .1 .1 .1 .0) (c .before .before .note .kept .0)
 

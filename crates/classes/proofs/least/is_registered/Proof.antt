@@ -7,11 +7,9 @@ use Rattle.classes.proofs.least.is_registered.Reads as reads
 use Rattle.classes.proofs.least.is_registered.Lts as lts
 use Rattle.circuit.proofs.place.node_at.Reads as node-at-reads
 
--- src/least.rt:29:9
 node-at-requires : tie.Need-node-at-requires
 node-at-requires c κs = search needs
 
--- src/least.rt:25:1
 returns : tie.Need-returns
 returns c = ap (λ (x : Node). x .registered) (c .node-at .ensures)
 

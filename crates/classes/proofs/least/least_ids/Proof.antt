@@ -16,67 +16,51 @@ Inv-loop class₀ least₀ n i₀ class least i = Lowering class₀ class least�
 abbrev μ-loop : tie.MeasureT-loop
 μ-loop class₀ least₀ n i₀ class least i = n - i
 
--- src/least.rt:46:5
 blank-requires : tie.Need-blank-requires Inv-loop μ-loop
 blank-requires c κs = search needs
 
--- src/least.rt:48:5
 loop-holds : tie.Need-loop-holds Inv-loop μ-loop
 loop-holds c = lower-start _ (c .before .before .blank .last .0) _ (λ v l. c .before .before .blank .ensures v (let e = c .before .before .blank .kept .0 in omega arith))
 
--- src/least.rt:50:17
 mul-v : tie.Need-mul-v Inv-loop μ-loop
 mul-v c = search needs
 
--- src/least.rt:50:17
 slice-read-v : tie.Need-slice-read-v Inv-loop μ-loop
 slice-read-v c = let h = c .before .before .before .before .before .before .before .before .before .pre .numbers in let e = c .before .before .loop .inv .ids in omega arith
 
--- src/least.rt:51:9
 note-requires : tie.Need-note-requires Inv-loop μ-loop
 note-requires c κs = note-inside _ _ _ _ _ _ _ _ (c .before .before .before .before .before .before .before .before .before .before .pre) (c .before .before .before .before .before .before .blank .kept .0) (c .before .before .before .loop .inv .listing) (c .before .before .loop-test .taken) (c .before .before .before .loop .inv .rest _ (omega arith))
 
--- src/least.rt:53:20
 mul-class : tie.Need-mul-class Inv-loop μ-loop
 mul-class c = let h = lower-inside _ _ _ _ _ _ _ (c .before .before .before .before .before .before .before .before .before .before .before .before .before .pre) (c .before .before .before .before .before .before .before .before .before .blank .kept .0) (c .before .before .before .before .before .before .loop .inv) (c .before .before .before .before .before .loop-test .taken) _ (c .before .before .note .kept .0) (c .before .before .note .ensures) in let k = c .before .before .note .kept .0 in omega arith
 
--- src/least.rt:53:20
 slice-read-class : tie.Need-slice-read-class Inv-loop μ-loop
 slice-read-class c = lower-inside _ _ _ _ _ _ _ (c .before .before .before .before .before .before .before .before .before .before .before .before .before .before .pre) (c .before .before .before .before .before .before .before .before .before .before .blank .kept .0) (c .before .before .before .before .before .before .before .loop .inv) (c .before .before .before .before .before .before .loop-test .taken) _ (c .before .before .before .note .kept .0) (c .before .before .before .note .ensures)
 
--- src/least.rt:53:20
 sub-class : tie.Need-sub-class Inv-loop μ-loop
 sub-class c = lower-some _ _ _ _ _ _ _ (c .before .before .before .before .before .before .before .before .before .before .before .before .before .before .pre) (c .before .before .before .before .before .before .before .before .before .before .blank .kept .0) (c .before .before .before .before .before .before .before .loop .inv) (c .before .before .before .before .before .before .loop-test .taken) _ (c .before .before .before .note .kept .0) (c .before .before .before .note .ensures)
 
--- src/least.rt:53:9
 mul-class-2 : tie.Need-mul-class-2 Inv-loop μ-loop
 mul-class-2 c = search needs
 
--- src/least.rt:53:9
 slice-write-class : tie.Need-slice-write-class Inv-loop μ-loop
 slice-write-class c = search needs
 
--- src/least.rt:54:9
 add-i : tie.Need-add-i Inv-loop μ-loop
 add-i c = search needs
 
--- src/least.rt:48:5
 loop-less : tie.Need-loop-less Inv-loop μ-loop
 loop-less c = search needs
 
--- src/least.rt:48:5
 loop-again : tie.Need-loop-again Inv-loop μ-loop
 loop-again c = lower-turn _ _ _ _ _ _ _ (c .before .before .before .before .before .before .before .before .before .before .before .before .before .before .pre) (c .before .before .before .before .before .before .before .before .before .before .blank .kept .0) (c .before .before .before .before .before .before .before .loop .inv) (c .before .before .before .before .before .before .loop-test .taken) _ (c .before .before .before .note .kept .0) (c .before .before .before .note .ensures)
 
--- src/least.rt:42:1
 same-length : tie.Need-same-length Inv-loop μ-loop
 same-length c = search needs
 
--- src/least.rt:42:1
 same-length-2 : tie.Need-same-length-2 Inv-loop μ-loop
 same-length-2 c = search needs
 
--- src/least.rt:42:1
 returns : tie.Need-returns Inv-loop μ-loop
 returns c = lower-end _ _ _ _ _ _ (c .before .loop .inv) (c .loop-test .left)
 

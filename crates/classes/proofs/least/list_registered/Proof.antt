@@ -22,47 +22,36 @@ Inv-loop m numbers least₀ n i₀ least i = Listing (registered m) numbers leas
 abbrev μ-loop : tie.MeasureT-loop
 μ-loop m numbers least₀ n i₀ least i = used m - i
 
--- src/least.rt:38:5
 blank-requires : tie.Need-blank-requires Inv-loop μ-loop
 blank-requires c κs = search needs
 
--- src/least.rt:39:13
 shared-slice-read-n : tie.Need-shared-slice-read-n Inv-loop μ-loop
 shared-slice-read-n c = let h = valid-length _ (c .before .before .before .before .before .before .before .before .pre .0) in omega arith
 
--- src/least.rt:41:5
 loop-holds : tie.Need-loop-holds Inv-loop μ-loop
 loop-holds c = list-start _ _ (c .before .before .before .blank .last .0) _ (λ v l. c .before .before .before .blank .ensures v (let e = c .before .before .before .blank .kept .0 in omega arith))
 
--- src/least.rt:42:12
 is-registered-requires : tie.Need-is-registered-requires Inv-loop μ-loop
 is-registered-requires c κs = valid-fits _ (c .before .before .before .before .before .before .before .before .before .before .pre .0) _ (c .loop-test .taken)
 
--- src/least.rt:43:25
 number-at-requires : tie.Need-number-at-requires Inv-loop μ-loop
 number-at-requires c κs = search needs
 
--- src/least.rt:43:13
 note-requires : tie.Need-note-requires Inv-loop μ-loop
 note-requires c κs = note-inside _ _ _ _ _ _ _ _ (c .before .before .before .before .before .before .before .before .before .before .before .before .before .before .pre .1) (c .before .before .before .before .before .before .before .before .before .blank .kept .0) (c .before .before .before .before .before .loop .inv) (c .before .before .before .before .loop-test .taken) (c .number-at .ensures)
 
--- src/least.rt:45:9
 add-i : tie.Need-add-i Inv-loop μ-loop
 add-i c = search needs
 
--- src/least.rt:41:5
 loop-less : tie.Need-loop-less Inv-loop μ-loop
 loop-less c = search needs
 
--- src/least.rt:41:5
 loop-again : tie.Need-loop-again Inv-loop μ-loop
 loop-again c = ⊎-elim (λ w. list-more _ _ _ _ _ _ (c .before .before .before .loop .inv) (c .before .before .loop-test .taken) (sym (c .before .is-registered .ensures) ∙ w .0 .taken) (let a = c .before .before .before .before .before .before .before .before .before .before .before .before .pre .1 .inside (c .before .before .before .loop .i) (c .before .before .loop-test .taken) in let e = c .before .before .before .before .before .before .before .blank .kept .0 in omega arith) _ _ (w .2 .ensures) (ap length (w .6) ∙ w .3 .kept .0) (w .6 ∙ w .3 .ensures)) (λ w. rw (w .1) (list-skip _ _ _ _ _ _ (c .before .before .before .loop .inv) (c .before .before .loop-test .taken) (sym (c .before .is-registered .ensures) ∙ w .0 .left))) (c .if1 .came)
 
--- src/least.rt:34:1
 same-length : tie.Need-same-length Inv-loop μ-loop
 same-length c = search needs
 
--- src/least.rt:34:1
 returns : tie.Need-returns Inv-loop μ-loop
 returns c = list-end _ _ _ _ _ _ (c .before .loop .inv) (c .loop-test .left)
 

@@ -6,36 +6,28 @@ use Rattle.classes.proofs.least.note.Tie as tie
 use Rattle.classes.proofs.least.note.Reads as reads
 use Rattle.classes.proofs.least.note.Lts as lts
 
--- src/least.rt:19:8
 mul-if1 : tie.Need-mul-if1
 mul-if1 c = search needs
 
--- src/least.rt:19:8
 slice-read-if1 : tie.Need-slice-read-if1
 slice-read-if1 c = search needs
 
--- src/least.rt:20:20
 add-least : tie.Need-add-least
 add-least c = search needs
 
--- src/least.rt:20:9
 mul-least : tie.Need-mul-least
 mul-least c = search needs
 
--- src/least.rt:20:9
 slice-write-least : tie.Need-slice-write-least
 slice-write-least c = search needs
 
--- src/least.rt:14:1
 same-length : tie.Need-same-length
 same-length c = search needs
 
--- src/least.rt:14:1
 returns : tie.Need-returns
 unfolding noted
 returns c = rw (eq-eqb _ _ (c .if1 .taken))
 
--- src/least.rt:14:1
 returns-2 : tie.Need-returns-2
 unfolding noted
 returns-2 c = rw (ne-eqb _ _ (c .if1 .left))

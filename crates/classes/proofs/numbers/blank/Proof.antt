@@ -17,35 +17,27 @@ Inv-loop s₀ n i₀ s i = (i ≤ n) × (length s ≡ length s₀) × ((j : ℕ)
 abbrev μ-loop : tie.MeasureT-loop
 μ-loop s₀ n i₀ s i = n - i
 
--- src/numbers.rt:67:5
 loop-holds : tie.Need-loop-holds Inv-loop μ-loop
 loop-holds c = (omega arith, refl, below-none (λ (j : ℕ). getD (c .args .s .now) j 0 ≡ 0))
 
--- src/numbers.rt:68:9
 mul-s : tie.Need-mul-s Inv-loop μ-loop
 mul-s c = search needs
 
--- src/numbers.rt:68:9
 slice-write-s : tie.Need-slice-write-s Inv-loop μ-loop
 slice-write-s c = search needs
 
--- src/numbers.rt:69:9
 add-i : tie.Need-add-i Inv-loop μ-loop
 add-i c = search needs
 
--- src/numbers.rt:67:5
 loop-less : tie.Need-loop-less Inv-loop μ-loop
 loop-less c = search needs
 
--- src/numbers.rt:67:5
 loop-again : tie.Need-loop-again Inv-loop μ-loop
 loop-again c = (omega arith, length-set (c .before .loop .s) (c .before .loop .i) 0 ∙ c .before .loop .inv .1, blank-more (c .before .loop .s) (c .before .loop .i) (let a = c .before .loop .inv .1 in omega arith) (c .before .loop .inv .2))
 
--- src/numbers.rt:62:1
 same-length : tie.Need-same-length Inv-loop μ-loop
 same-length c = search needs
 
--- src/numbers.rt:62:1
 returns : tie.Need-returns Inv-loop μ-loop
 returns c = blank-done (c .before .loop .s) _ _ (c .loop-test .left) (c .before .loop .inv .2)
 

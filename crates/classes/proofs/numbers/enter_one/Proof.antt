@@ -9,35 +9,27 @@ use Rattle.circuit.proofs.place.expression_at.Reads as expression-at-reads
 use Rattle.classes.proofs.numbers.key_of.Reads as key-of-reads
 use Rattle.classes.proofs.table.intern.Reads as intern-reads
 
--- src/numbers.rt:54:9
 expression-at-requires : tie.Need-expression-at-requires
 expression-at-requires c κs = search needs
 
--- src/numbers.rt:55:9
 key-of-requires : tie.Need-key-of-requires
 key-of-requires c κs = search needs
 
--- src/numbers.rt:56:9
 intern-requires : tie.Need-intern-requires
 intern-requires c κs = search needs
 
--- src/numbers.rt:58:5
 mul-numbers : tie.Need-mul-numbers
 mul-numbers c = search needs
 
--- src/numbers.rt:58:5
 slice-write-numbers : tie.Need-slice-write-numbers
 slice-write-numbers c = search needs
 
--- src/numbers.rt:50:1
 same-length : tie.Need-same-length
 same-length c = search needs
 
--- src/numbers.rt:50:1
 same-length-2 : tie.Need-same-length-2
 same-length-2 c = search needs
 
--- src/numbers.rt:50:1
 returns : tie.Need-returns
 returns c = record { number = c .before .before .intern .result; put = refl; interned = rw (c .before .before .before .before .key-of .ensures ∙ ap (keyOf _) (c .before .before .before .before .before .before .expression-at .ensures)) at (c .before .before .intern .ensures) }
 

@@ -9,15 +9,12 @@ use Rattle.classes.proofs.numbers.key_of.Lts as lts
 use Rattle.circuit.proofs.place.words_of.Reads as words-of-reads
 use Rattle.classes.proofs.numbers.over_numbers.Reads as over-numbers-reads
 
--- src/numbers.rt:46:14
 over-numbers-requires : tie.Need-over-numbers-requires
 over-numbers-requires c κs = search needs
 
--- src/numbers.rt:46:5
 words-of-requires : tie.Need-words-of-requires
 words-of-requires c κs = search needs
 
--- src/numbers.rt:43:1
 returns : tie.Need-returns
 unfolding keyOf
 returns c = c .words-of .ensures ∙ ap encode (c .before .over-numbers .ensures)

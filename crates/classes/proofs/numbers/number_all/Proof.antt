@@ -17,51 +17,39 @@ Inv-loop m order rank numbers₀ table₀ n q₀ numbers table q = Looping m ord
 abbrev μ-loop : tie.MeasureT-loop
 μ-loop m order rank numbers₀ table₀ n q₀ numbers table q = used m - q
 
--- src/numbers.rt:78:5
 blank-requires : tie.Need-blank-requires Inv-loop μ-loop
 blank-requires c κs = let k = c .before .before .before .before .before .before .pre .sized .keys in omega arith
 
--- src/numbers.rt:79:13
 shared-slice-read-n : tie.Need-shared-slice-read-n Inv-loop μ-loop
 shared-slice-read-n c = let k = valid-length _ (c .before .before .before .before .before .before .before .before .before .before .pre .circuit) in omega arith
 
--- src/numbers.rt:81:5
 loop-holds : tie.Need-loop-holds Inv-loop μ-loop
 loop-holds c = loop-start _ _ _ _ _ _ (c .before .before .before .before .before .before .before .before .before .before .pre) (c .before .before .before .blank .kept .0) (c .before .before .before .blank .ensures)
 
--- src/numbers.rt:83:22
 mul-enter-one : tie.Need-mul-enter-one Inv-loop μ-loop
 mul-enter-one c = search needs
 
--- src/numbers.rt:83:22
 shared-slice-read-enter-one : tie.Need-shared-slice-read-enter-one Inv-loop μ-loop
 shared-slice-read-enter-one c = let k = c .before .before .before .before .before .before .before .before .before .before .before .before .before .pre .ids in omega arith
 
--- src/numbers.rt:83:9
 enter-one-requires : tie.Need-enter-one-requires Inv-loop μ-loop
 enter-one-requires c κs = loop-enterable _ _ _ _ _ _ (c .before .before .before .before .before .before .before .before .before .before .before .before .before .before .before .pre) (c .before .before .before .before .before .before .before .before .blank .kept .0) _ _ _ (c .before .before .before .before .loop .inv) (c .before .before .before .loop-test .taken)
 
--- src/numbers.rt:84:9
 add-q : tie.Need-add-q Inv-loop μ-loop
 add-q c = search needs
 
--- src/numbers.rt:81:5
 loop-less : tie.Need-loop-less Inv-loop μ-loop
 loop-less c = search needs
 
--- src/numbers.rt:81:5
 loop-again : tie.Need-loop-again Inv-loop μ-loop
 loop-again c = loop-turn _ _ _ _ _ _ (c .before .before .before .before .before .before .before .before .before .before .before .before .before .before .before .before .before .before .before .before .pre) (c .before .before .before .before .before .before .before .before .before .before .before .before .before .blank .kept .0) _ _ _ (c .before .before .before .before .before .before .before .before .before .loop .inv) (c .before .before .before .before .before .before .before .before .loop-test .taken) _ _ (c .before .before .before .before .enter-one .kept .1 .1 .0) (c .before .before .before .before .enter-one .kept .1 .1 .1 .0) (c .before .before .before .before .enter-one .ensures)
 
--- src/numbers.rt:74:1
 same-length : tie.Need-same-length Inv-loop μ-loop
 same-length c = search needs
 
--- src/numbers.rt:74:1
 same-length-2 : tie.Need-same-length-2 Inv-loop μ-loop
 same-length-2 c = search needs
 
--- src/numbers.rt:74:1
 returns : tie.Need-returns Inv-loop μ-loop
 returns c = loop-end _ _ _ _ _ _ (c .before .before .before .before .before .before .before .before .before .before .before .before .pre) (c .before .before .before .before .before .blank .kept .0) _ _ _ (c .before .loop .inv) (c .loop-test .left)
 

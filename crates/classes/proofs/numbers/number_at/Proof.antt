@@ -6,19 +6,15 @@ use Rattle.classes.proofs.numbers.number_at.Tie as tie
 use Rattle.classes.proofs.numbers.number_at.Reads as reads
 use Rattle.classes.proofs.numbers.number_at.Lts as lts
 
--- src/numbers.rt:24:16
 mul-result : tie.Need-mul-result
 mul-result c = search needs
 
--- src/numbers.rt:24:16
 shared-slice-read-result : tie.Need-shared-slice-read-result
 shared-slice-read-result c = search needs
 
--- src/numbers.rt:24:9
 returns : tie.Need-returns
 returns c = search needs
 
--- src/numbers.rt:19:1
 returns-2 : tie.Need-returns-2
 returns-2 c = sym (List·getD-eq-default (c .before .args .numbers .now) 0 (c .if1 .left))
 

@@ -6,31 +6,24 @@ use Rattle.classes.proofs.table.bucket.Tie as tie
 use Rattle.classes.proofs.table.bucket.Reads as reads
 use Rattle.classes.proofs.table.bucket.Lts as lts
 
--- src/table.rt:13:20
 mul-result : tie.Need-mul-result
 mul-result c = search needs
 
--- src/table.rt:13:6
 add-result : tie.Need-add-result
 add-result c = search needs
 
--- src/table.rt:13:47
 mul-result-2 : tie.Need-mul-result-2
 mul-result-2 c = search needs
 
--- src/table.rt:13:6
 add-result-2 : tie.Need-add-result-2
 add-result-2 c = search needs
 
--- src/table.rt:13:75
 mul-result-3 : tie.Need-mul-result-3
 mul-result-3 c = search needs
 
--- src/table.rt:13:6
 add-result-3 : tie.Need-add-result-3
 add-result-3 c = search needs
 
--- src/table.rt:10:1
 returns : tie.Need-returns
 unfolding spread
 returns c = omega arith

@@ -12,63 +12,48 @@ use Rattle.classes.proofs.table.bucket.Reads as bucket-reads
 use Rattle.classes.proofs.table.seek.Reads as seek-reads
 use Rattle.classes.proofs.table.write_key.Reads as write-key-reads
 
--- src/table.rt:69:9
 seek-requires : tie.Need-seek-requires
 seek-requires c κs = search needs
 
--- src/table.rt:71:9
 same-length : tie.Need-same-length
 same-length c = search needs
 
--- src/table.rt:71:9
 returns : tie.Need-returns
 returns c = key-known _ _ _ (c .before .before .before .before .pre) (c .before .seek .ensures) (c .if1 .taken)
 
--- src/table.rt:73:17
 bucket-requires : tie.Need-bucket-requires
 bucket-requires c κs = search needs
 
--- src/table.rt:73:13
 add-h : tie.Need-add-h
 add-h c = omega (arith, spread-lt (listed (c .before .before .before .before .before .args .w)), c .bucket .ensures)
 
--- src/table.rt:74:13
 slice-read-v : tie.Need-slice-read-v
 slice-read-v c = search needs
 
--- src/table.rt:74:13
 add-v : tie.Need-add-v
 add-v c = search needs
 
--- src/table.rt:75:18
 mul-before : tie.Need-mul-before
 mul-before c = omega (arith, spread-lt (listed (c .before .before .before .before .before .before .args .w)), c .before .bucket .ensures)
 
--- src/table.rt:75:18
 slice-read-before : tie.Need-slice-read-before
 slice-read-before c = omega (arith, spread-lt (listed (c .before .before .before .before .before .before .before .args .w)), c .before .before .bucket .ensures, c .before .before .before .before .before .before .before .pre .more)
 
--- src/table.rt:76:5
 write-key-requires : tie.Need-write-key-requires
 write-key-requires c κs = search needs
 
--- src/table.rt:77:5
 slice-write-table : tie.Need-slice-write-table
 slice-write-table c = search needs
 
--- src/table.rt:78:5
 mul-table : tie.Need-mul-table
 mul-table c = omega (arith, spread-lt (listed (c .before .before .before .before .before .before .before .before .before .before .before .args .w)), c .before .before .before .before .before .before .bucket .ensures)
 
--- src/table.rt:78:5
 slice-write-table-2 : tie.Need-slice-write-table-2
 slice-write-table-2 c = let e = c .before .before .write-key .kept .0 in simp (length-set, e) (omega (arith, spread-lt (listed (c .before .before .before .before .before .before .before .before .before .before .before .args .w)), c .before .before .before .before .before .before .bucket .ensures, c .before .before .before .before .before .before .before .before .before .before .before .pre .more))
 
--- src/table.rt:65:1
 same-length-2 : tie.Need-same-length-2
 same-length-2 c = search needs
 
--- src/table.rt:65:1
 returns-2 : tie.Need-returns-2
 returns-2 c = key-added _ _ _ _ _ (c .before .before .before .before .before .before .before .before .before .before .before .pre) (rw (c .before .before .before .before .before .before .before .if1 .left) at (c .before .before .before .before .before .before .before .before .seek .ensures)) (c .before .before .before .before .before .before .bucket .ensures) (add-one _) (c .before .before .write-key .ensures) (c .before .before .write-key .kept .0)
 

@@ -6,74 +6,57 @@ use Rattle.classes.proofs.table.is_key.Tie as tie
 use Rattle.classes.proofs.table.is_key.Reads as reads
 use Rattle.classes.proofs.table.is_key.Lts as lts
 
--- src/table.rt:21:21
 mul-at : tie.Need-mul-at
 mul-at c = search needs
 
--- src/table.rt:21:14
 add-at : tie.Need-add-at
 add-at c = search needs
 
--- src/table.rt:22:8
 mul-if1 : tie.Need-mul-if1
 mul-if1 c = search needs
 
--- src/table.rt:22:8
 shared-slice-read-if1 : tie.Need-shared-slice-read-if1
 shared-slice-read-if1 c = search needs
 
--- src/table.rt:23:9
 returns : tie.Need-returns
 unfolding entry
 returns c = word-differs _ _ _ _ (c .if1 .taken)
 
--- src/table.rt:25:14
 add-if2 : tie.Need-add-if2
 add-if2 c = search needs
 
--- src/table.rt:25:8
 mul-if2 : tie.Need-mul-if2
 mul-if2 c = search needs
 
--- src/table.rt:25:8
 shared-slice-read-if2 : tie.Need-shared-slice-read-if2
 shared-slice-read-if2 c = search needs
 
--- src/table.rt:26:9
 returns-2 : tie.Need-returns-2
 unfolding entry
 returns-2 c = word-agrees _ _ _ _ _ (c .before .before .before .if1 .left) (word-differs _ _ _ _ (c .if2 .taken))
 
--- src/table.rt:28:14
 add-if3 : tie.Need-add-if3
 add-if3 c = search needs
 
--- src/table.rt:28:8
 mul-if3 : tie.Need-mul-if3
 mul-if3 c = search needs
 
--- src/table.rt:28:8
 shared-slice-read-if3 : tie.Need-shared-slice-read-if3
 shared-slice-read-if3 c = search needs
 
--- src/table.rt:29:9
 returns-3 : tie.Need-returns-3
 unfolding entry
 returns-3 c = word-agrees _ _ _ _ _ (c .before .before .before .before .before .before .if1 .left) (word-agrees _ _ _ _ _ (c .before .before .before .if2 .left) (word-differs _ _ _ _ (c .if3 .taken)))
 
--- src/table.rt:31:11
 add-result : tie.Need-add-result
 add-result c = search needs
 
--- src/table.rt:31:5
 mul-result : tie.Need-mul-result
 mul-result c = search needs
 
--- src/table.rt:31:5
 shared-slice-read-result : tie.Need-shared-slice-read-result
 shared-slice-read-result c = search needs
 
--- src/table.rt:17:1
 returns-4 : tie.Need-returns-4
 unfolding entry
 returns-4 c = word-agrees _ _ _ _ _ (c .before .before .before .before .before .before .before .before .if1 .left) (word-agrees _ _ _ _ _ (c .before .before .before .before .before .if2 .left) (word-agrees _ _ _ _ _ (c .before .before .if3 .left) (word-last _ _)))

@@ -16,63 +16,48 @@ Inv-loop table w h v₀ v = Going table (listed w) v
 abbrev μ-loop : tie.MeasureT-loop
 μ-loop table w h v₀ v = v
 
--- src/table.rt:39:17
 bucket-requires : tie.Need-bucket-requires Inv-loop μ-loop
 bucket-requires c κs = search needs
 
--- src/table.rt:39:13
 add-h : tie.Need-add-h Inv-loop μ-loop
 add-h c = omega (arith, spread-lt (listed (c .before .before .args .w)), c .bucket .ensures)
 
--- src/table.rt:40:17
 mul-v : tie.Need-mul-v Inv-loop μ-loop
 mul-v c = omega (arith, spread-lt (listed (c .before .before .args .w)), c .bucket .ensures)
 
--- src/table.rt:40:17
 shared-slice-read-v : tie.Need-shared-slice-read-v Inv-loop μ-loop
 shared-slice-read-v c = omega (arith, spread-lt (listed (c .before .before .before .args .w)), c .before .bucket .ensures, c .before .before .before .pre .room)
 
--- src/table.rt:41:5
 loop-holds : tie.Need-loop-holds Inv-loop μ-loop
 loop-holds c = go-start _ _ (c .before .before .before .pre) _ (c .before .bucket .ensures)
 
--- src/table.rt:42:12
 is-key-requires : tie.Need-is-key-requires Inv-loop μ-loop
 is-key-requires c κs = search needs
 
--- src/table.rt:43:13
 returns : tie.Need-returns Inv-loop μ-loop
 returns c = go-hit _ _ (c .before .before .before .before .before .before .before .pre) _ (c .before .before .loop-test .taken) (c .before .before .before .loop .inv) (sym (c .before .is-key .ensures) ∙ c .if1 .taken)
 
--- src/table.rt:45:25
 mul-at : tie.Need-mul-at Inv-loop μ-loop
 mul-at c = search needs
 
--- src/table.rt:45:18
 add-at : tie.Need-add-at Inv-loop μ-loop
 add-at c = search needs
 
--- src/table.rt:46:13
 add-v : tie.Need-add-v Inv-loop μ-loop
 add-v c = search needs
 
--- src/table.rt:46:13
 mul-v-2 : tie.Need-mul-v-2 Inv-loop μ-loop
 mul-v-2 c = search needs
 
--- src/table.rt:46:13
 shared-slice-read-v-2 : tie.Need-shared-slice-read-v-2 Inv-loop μ-loop
 shared-slice-read-v-2 c = search needs
 
--- src/table.rt:41:5
 loop-less : tie.Need-loop-less Inv-loop μ-loop
 loop-less c = go-falls _ _ (c .before .before .before .before .before .before .before .before .pre) _ (c .before .before .before .loop-test .taken) (c .before .before .before .before .loop .inv)
 
--- src/table.rt:41:5
 loop-again : tie.Need-loop-again Inv-loop μ-loop
 loop-again c = go-on _ _ (c .before .before .before .before .before .before .before .before .pre) _ (c .before .before .before .loop-test .taken) (c .before .before .before .before .loop .inv) (sym (c .before .before .is-key .ensures) ∙ c .before .if1 .left)
 
--- src/table.rt:35:1
 returns-2 : tie.Need-returns-2 Inv-loop μ-loop
 returns-2 c = go-end _ _ (c .before .before .before .before .before .pre) _ (c .loop-test .left) (c .before .loop .inv)
 

@@ -7,75 +7,57 @@ use Rattle.classes.proofs.table.write_key.Tie as tie
 use Rattle.classes.proofs.table.write_key.Reads as reads
 use Rattle.classes.proofs.table.write_key.Lts as lts
 
--- src/table.rt:56:21
 mul-at : tie.Need-mul-at
 mul-at c = search needs
 
--- src/table.rt:56:14
 add-at : tie.Need-add-at
 add-at c = search needs
 
--- src/table.rt:57:5
 mul-table : tie.Need-mul-table
 mul-table c = search needs
 
--- src/table.rt:57:5
 slice-write-table : tie.Need-slice-write-table
 slice-write-table c = search needs
 
--- src/table.rt:58:11
 add-table : tie.Need-add-table
 add-table c = search needs
 
--- src/table.rt:58:5
 mul-table-2 : tie.Need-mul-table-2
 mul-table-2 c = search needs
 
--- src/table.rt:58:5
 slice-write-table-2 : tie.Need-slice-write-table-2
 slice-write-table-2 c = simp length-set (omega arith)
 
--- src/table.rt:59:11
 add-table-2 : tie.Need-add-table-2
 add-table-2 c = search needs
 
--- src/table.rt:59:5
 mul-table-3 : tie.Need-mul-table-3
 mul-table-3 c = search needs
 
--- src/table.rt:59:5
 slice-write-table-3 : tie.Need-slice-write-table-3
 slice-write-table-3 c = simp length-set (omega arith)
 
--- src/table.rt:60:11
 add-table-3 : tie.Need-add-table-3
 add-table-3 c = search needs
 
--- src/table.rt:60:5
 mul-table-4 : tie.Need-mul-table-4
 mul-table-4 c = search needs
 
--- src/table.rt:60:5
 slice-write-table-4 : tie.Need-slice-write-table-4
 slice-write-table-4 c = simp length-set (omega arith)
 
--- src/table.rt:61:11
 add-table-4 : tie.Need-add-table-4
 add-table-4 c = search needs
 
--- src/table.rt:61:5
 mul-table-5 : tie.Need-mul-table-5
 mul-table-5 c = search needs
 
--- src/table.rt:61:5
 slice-write-table-5 : tie.Need-slice-write-table-5
 slice-write-table-5 c = simp length-set (omega arith)
 
--- src/table.rt:52:1
 same-length : tie.Need-same-length
 same-length c = search needs
 
--- src/table.rt:52:1
 returns : tie.Need-returns
 returns c = key-stored _ _ _ _ _ _ _ (c .pre)
 

@@ -3,39 +3,30 @@ use borrow.Author.Needs.{needs}
 use Rattle.frame.proofs.calls.frame.Statement.{statement}
 use Rattle.frame.proofs.calls.frame.Tie as tie
 
--- src/calls.rt:22:46
 read-requires : tie.Need-read-requires
 read-requires c κs = search needs
 
--- src/calls.rt:22:9
 respond-requires : tie.Need-respond-requires
 respond-requires c κs = search needs
 
--- src/calls.rt:23:5
 write-requires : tie.Need-write-requires
 write-requires c κs = search needs
 
--- src/calls.rt:12:1
 same-length : tie.Need-same-length
 same-length c = search needs
 
--- src/calls.rt:12:1
 same-length-2 : tie.Need-same-length-2
 same-length-2 c = search needs
 
--- src/calls.rt:12:1
 same-length-3 : tie.Need-same-length-3
 same-length-3 c = search needs
 
--- src/calls.rt:12:1
 same-length-4 : tie.Need-same-length-4
 same-length-4 c = search needs
 
--- src/calls.rt:12:1
 same-length-5 : tie.Need-same-length-5
 same-length-5 c = search needs
 
--- src/calls.rt:12:1
 returns : tie.Need-returns
 returns c = framed-by _ _ _ _ _ _ _ _ _ _ _ (c .before .before .before .before .before .before .before .before .before .before .before .before .before .before .before .read .ensures) (c .before .before .before .before .before .before .before .before .before .before .before .before .before .before .respond .ensures) (c .before .before .write .ensures)
 

@@ -16,35 +16,27 @@ Inv-loop line i₀ i = (i ≤ length line) × (all isDigit (drop i line) ≡ all
 abbrev μ-loop : tie.MeasureT-loop
 μ-loop line i₀ i = length line - i
 
--- src/digits.rt:28:5
 loop-holds : tie.Need-loop-holds Inv-loop μ-loop
 loop-holds c = (omega arith, refl)
 
--- src/digits.rt:29:22
 shared-slice-read-is-digit : tie.Need-shared-slice-read-is-digit Inv-loop μ-loop
 shared-slice-read-is-digit c = omega arith
 
--- src/digits.rt:29:13
 is-digit-requires : tie.Need-is-digit-requires Inv-loop μ-loop
 is-digit-requires c κs = search needs
 
--- src/digits.rt:30:13
 returns : tie.Need-returns Inv-loop μ-loop
 returns c = all-here _ _ _ (search needs) (sym (c .before .is-digit .ensures) ∙ not-true _ (c .if1 .taken)) (c .before .before .before .before .loop .inv .1)
 
--- src/digits.rt:32:9
 add-i : tie.Need-add-i Inv-loop μ-loop
 add-i c = omega arith
 
--- src/digits.rt:28:5
 loop-less : tie.Need-loop-less Inv-loop μ-loop
 loop-less c = omega arith
 
--- src/digits.rt:28:5
 loop-again : tie.Need-loop-again Inv-loop μ-loop
 loop-again c = (omega arith, all-next _ _ _ (search needs) (sym (c .before .is-digit .ensures) ∙ not-false _ (c .if1 .left)) (c .before .before .before .before .loop .inv .1))
 
--- src/digits.rt:24:1
 returns-2 : tie.Need-returns-2 Inv-loop μ-loop
 returns-2 c = all-done _ _ _ (c .loop-test .left) (c .before .loop .inv .1)
 

@@ -5,47 +5,36 @@ use borrow.Author.Needs.{needs}
 use Rattle.frame.proofs.digits.byte_at.Statement.{statement}
 use Rattle.frame.proofs.digits.byte_at.Tie as tie
 
--- src/digits.rt:55:14
 mul-at : tie.Need-mul-at
 mul-at c = search needs
 
--- src/digits.rt:56:22
 add-if1 : tie.Need-add-if1
 add-if1 c = search needs
 
--- src/digits.rt:57:9
 returns : tie.Need-returns
 returns c = sym (byte-none _ _ (c .if1 .taken))
 
--- src/digits.rt:59:16
 shared-slice-read-digit : tie.Need-shared-slice-read-digit
 shared-slice-read-digit c = search needs
 
--- src/digits.rt:59:10
 digit-requires : tie.Need-digit-requires
 digit-requires c κs = search needs
 
--- src/digits.rt:59:5
 mul-result : tie.Need-mul-result
 mul-result c = omega (arith, digit-small _ _ (c .digit .ensures))
 
--- src/digits.rt:59:39
 add-digit : tie.Need-add-digit
 add-digit c = search needs
 
--- src/digits.rt:59:34
 shared-slice-read-digit-2 : tie.Need-shared-slice-read-digit-2
 shared-slice-read-digit-2 c = search needs
 
--- src/digits.rt:59:28
 digit-requires-2 : tie.Need-digit-requires-2
 digit-requires-2 c κs = search needs
 
--- src/digits.rt:59:5
 add-result : tie.Need-add-result
 add-result c = omega (arith, digit-small _ _ (c .before .before .digit .ensures), digit-small _ _ (c .digit2 .ensures))
 
--- src/digits.rt:51:1
 returns-2 : tie.Need-returns-2
 returns-2 c = rw (c .digit2 .ensures, c .before .before .digit .ensures) (byte-here _ _ (search needs))
 

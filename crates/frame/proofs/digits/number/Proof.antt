@@ -13,39 +13,30 @@ Inv-loop line size after n₀ k₀ n k = (k ≤ size) × (n ≡ numberAt k after
 abbrev μ-loop : tie.MeasureT-loop
 μ-loop line size after n₀ k₀ n k = size - k
 
--- src/digits.rt:69:5
 loop-holds : tie.Need-loop-holds Inv-loop μ-loop
 loop-holds c = (omega arith, number-none _ _)
 
--- src/digits.rt:70:13
 mul-n : tie.Need-mul-n Inv-loop μ-loop
 mul-n c = omega (arith, number-small _ _ _ _ (c .before .loop .inv .1) (omega arith))
 
--- src/digits.rt:70:37
 add-byte-at : tie.Need-add-byte-at Inv-loop μ-loop
 add-byte-at c = omega arith
 
--- src/digits.rt:70:23
 byte-at-requires : tie.Need-byte-at-requires Inv-loop μ-loop
 byte-at-requires c κs = omega arith
 
--- src/digits.rt:70:13
 add-n : tie.Need-add-n Inv-loop μ-loop
 add-n c = omega (arith, number-small _ _ _ _ (c .before .before .loop .inv .1) (omega arith), byte-small _ _ _ (c .byte-at .ensures))
 
--- src/digits.rt:71:9
 add-k : tie.Need-add-k Inv-loop μ-loop
 add-k c = omega arith
 
--- src/digits.rt:69:5
 loop-less : tie.Need-loop-less Inv-loop μ-loop
 loop-less c = omega arith
 
--- src/digits.rt:69:5
 loop-again : tie.Need-loop-again Inv-loop μ-loop
 loop-again c = (omega arith, number-again _ _ _ _ _ (c .before .before .loop .inv .1) (c .byte-at .ensures))
 
--- src/digits.rt:63:1
 returns : tie.Need-returns Inv-loop μ-loop
 returns c = number-done _ _ _ _ _ (c .before .loop .inv .1) (c .before .loop .inv .0) (c .loop-test .left)
 

@@ -3,27 +3,21 @@ use borrow.Author.Needs.{needs}
 use Rattle.frame.proofs.reply.put.Statement.{statement}
 use Rattle.frame.proofs.reply.put.Tie as tie
 
--- src/reply.rt:26:16
 add-result : tie.Need-add-result
 add-result c = search needs
 
--- src/reply.rt:26:9
 returns : tie.Need-returns
 returns c = put-out _ _ _ (c .if1 .taken)
 
--- src/reply.rt:28:5
 slice-write-answer : tie.Need-slice-write-answer
 slice-write-answer c = search needs
 
--- src/reply.rt:29:5
 add-result-2 : tie.Need-add-result-2
 add-result-2 c = search needs
 
--- src/reply.rt:21:1
 same-length : tie.Need-same-length
 same-length c = search needs
 
--- src/reply.rt:21:1
 returns-2 : tie.Need-returns-2
 returns-2 c = search needs
 

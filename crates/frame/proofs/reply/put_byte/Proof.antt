@@ -4,27 +4,21 @@ use borrow.Author.Needs.{needs}
 use Rattle.frame.proofs.reply.put_byte.Statement.{statement}
 use Rattle.frame.proofs.reply.put_byte.Tie as tie
 
--- src/reply.rt:36:32
 character-requires : tie.Need-character-requires
 character-requires c κs = search needs
 
--- src/reply.rt:36:9
 put-requires : tie.Need-put-requires
 put-requires c κs = search needs
 
--- src/reply.rt:37:23
 character-requires-2 : tie.Need-character-requires-2
 character-requires-2 c κs = search needs
 
--- src/reply.rt:37:5
 put-requires-2 : tie.Need-put-requires-2
 put-requires-2 c κs = search needs
 
--- src/reply.rt:32:1
 same-length : tie.Need-same-length
 same-length c = search needs
 
--- src/reply.rt:32:1
 returns : tie.Need-returns
 unfolding hexadecimal
 returns c = rw (c .before .before .before .character2 .ensures, c .before .before .before .before .before .before .before .before .character .ensures) at (put-then (c .before .before .before .before .before .before .before .put .ensures) (c .before .before .put2 .ensures))

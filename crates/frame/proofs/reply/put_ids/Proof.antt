@@ -13,47 +13,36 @@ Inv-loop answer₀ at ids n next₀ k₀ answer next k = ((k ≤ length ids) × 
 abbrev μ-loop : tie.MeasureT-loop
 μ-loop answer₀ at ids n next₀ k₀ answer next k = length ids - k
 
--- src/reply.rt:56:5
 loop-holds : tie.Need-loop-holds Inv-loop μ-loop
 loop-holds c = ((omega arith, omega arith), (refl, ids-none _ _ (c .before .before .args .ids .now)))
 
--- src/reply.rt:58:13
 same-length : tie.Need-same-length Inv-loop μ-loop
 same-length c = c .before .before .loop .inv .1 .0
 
--- src/reply.rt:58:13
 returns : tie.Need-returns Inv-loop μ-loop
 returns c = ids-counted _ _ _ _ _ _ (c .before .before .loop .inv .1 .1) _ (c .before .before .loop .inv .0 .1) (c .if1 .taken)
 
--- src/reply.rt:60:38
 mul-put-two : tie.Need-mul-put-two Inv-loop μ-loop
 mul-put-two c = omega arith
 
--- src/reply.rt:60:38
 shared-slice-read-put-two : tie.Need-shared-slice-read-put-two Inv-loop μ-loop
 shared-slice-read-put-two c = omega arith
 
--- src/reply.rt:60:9
 put-two-requires : tie.Need-put-two-requires Inv-loop μ-loop
 put-two-requires c κs = omega (arith, ids-behind _ _ _ _ _ _ (c .before .before .before .before .loop .inv .1 .1) (c .before .before .before .before .loop .inv .0 .0))
 
--- src/reply.rt:61:9
 add-k : tie.Need-add-k Inv-loop μ-loop
 add-k c = omega arith
 
--- src/reply.rt:56:5
 loop-less : tie.Need-loop-less Inv-loop μ-loop
 loop-less c = omega arith
 
--- src/reply.rt:56:5
 loop-again : tie.Need-loop-again Inv-loop μ-loop
 loop-again c = ((omega arith, omega arith), (c .before .before .put-two .kept .0 ∙ c .before .before .before .before .before .before .before .loop .inv .1 .0, ids-more _ _ _ _ _ _ (c .before .before .before .before .before .before .before .loop .inv .1 .1) _ _ (c .before .before .before .before .before .before .loop-test .taken) (c .before .before .put-two .ensures)))
 
--- src/reply.rt:50:1
 same-length-2 : tie.Need-same-length-2 Inv-loop μ-loop
 same-length-2 c = c .before .loop .inv .1 .0
 
--- src/reply.rt:50:1
 returns-2 : tie.Need-returns-2 Inv-loop μ-loop
 returns-2 c = ids-all _ _ _ _ _ _ (c .before .loop .inv .1 .1) _ (c .before .loop .inv .0 .1) (c .loop-test .left)
 

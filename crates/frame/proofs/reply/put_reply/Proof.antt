@@ -4,75 +4,57 @@ use borrow.Author.Needs.{needs}
 use Rattle.frame.proofs.reply.put_reply.Statement.{statement}
 use Rattle.frame.proofs.reply.put_reply.Tie as tie
 
--- src/reply.rt:83:21
 enum-known-reply : tie.Need-enum-known-reply
 enum-known-reply c = search needs
 
--- src/reply.rt:83:27
 put-byte-requires : tie.Need-put-byte-requires
 put-byte-requires c κs = search needs
 
--- src/reply.rt:84:19
 enum-known-reply-2 : tie.Need-enum-known-reply-2
 enum-known-reply-2 c = search needs
 
--- src/reply.rt:85:17
 put-byte-requires-2 : tie.Need-put-byte-requires-2
 put-byte-requires-2 c κs = search needs
 
--- src/reply.rt:87:17
 put-two-requires : tie.Need-put-two-requires
 put-two-requires c κs = omega (arith, byte-behind _ (c .before .before .before .before .put-byte2 .ensures))
 
--- src/reply.rt:87:17
 same-length : tie.Need-same-length
 same-length c = search needs
 
--- src/reply.rt:87:17
 returns : tie.Need-returns
 returns c = id-put _ _ _ _ _ _ (c .before .before .before .before .before .before .before .before .before .before .reply2 .given .1) (c .before .before .before .before .if1 .taken) (c .before .before .before .before .before .before .before .put-byte2 .ensures) (c .before .before .put-two .ensures)
 
--- src/reply.rt:91:23
 enum-known-reply-3 : tie.Need-enum-known-reply-3
 enum-known-reply-3 c = search needs
 
--- src/reply.rt:92:17
 put-byte-requires-3 : tie.Need-put-byte-requires-3
 put-byte-requires-3 c κs = search needs
 
--- src/reply.rt:94:17
 put-lists-requires : tie.Need-put-lists-requires
 put-lists-requires c κs = omega (arith, byte-behind _ (c .before .before .before .before .put-byte3 .ensures))
 
--- src/reply.rt:94:17
 same-length-2 : tie.Need-same-length-2
 same-length-2 c = search needs
 
--- src/reply.rt:94:17
 returns-2 : tie.Need-returns-2
 returns-2 c = counts-put _ _ _ _ _ _ _ (c .before .before .before .before .before .before .before .before .before .before .reply3 .given .1) (c .before .before .before .before .if2 .taken) (c .before .before .before .before .before .before .before .put-byte3 .ensures) (c .before .before .put-lists .ensures)
 
--- src/reply.rt:79:1
 same-length-3 : tie.Need-same-length-3
 same-length-3 c = search needs
 
--- src/reply.rt:79:1
 returns-3 : tie.Need-returns-3
 returns-3 c = bare-put _ _ _ _ _ (c .before .before .before .before .before .reply .given .1) (c .before .before .put-byte .ensures)
 
--- src/reply.rt:79:1
 same-length-4 : tie.Need-same-length-4
 same-length-4 c = search needs
 
--- src/reply.rt:79:1
 returns-4 : tie.Need-returns-4
 returns-4 c = id-refused _ _ _ _ _ _ (c .before .before .before .before .before .before .reply2 .given .1) (c .if1 .left) (c .before .before .before .put-byte2 .ensures)
 
--- src/reply.rt:79:1
 same-length-5 : tie.Need-same-length-5
 same-length-5 c = search needs
 
--- src/reply.rt:79:1
 returns-5 : tie.Need-returns-5
 returns-5 c = counts-refused _ _ _ _ _ _ _ (c .before .before .before .before .before .before .reply3 .given .1) (c .if2 .left) (c .before .before .before .put-byte3 .ensures)
 

@@ -5,20 +5,16 @@ use borrow.Author.Needs.{needs}
 use Rattle.frame.proofs.reply.put_two.Statement.{statement}
 use Rattle.frame.proofs.reply.put_two.Tie as tie
 
--- src/reply.rt:45:9
 put-byte-requires : tie.Need-put-byte-requires
 put-byte-requires c κs = search needs
 
--- src/reply.rt:46:5
 put-byte-requires-2 : tie.Need-put-byte-requires-2
 unfolding hexadecimal
 put-byte-requires-2 c κs = omega arith
 
--- src/reply.rt:41:1
 same-length : tie.Need-same-length
 same-length c = search needs
 
--- src/reply.rt:41:1
 returns : tie.Need-returns
 unfolding hexadecimal two
 returns c = put-then (c .before .before .before .before .before .before .put-byte .ensures) (c .before .before .put-byte2 .ensures)

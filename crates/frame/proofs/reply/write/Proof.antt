@@ -4,19 +4,15 @@ use borrow.Author.Needs.{needs}
 use Rattle.frame.proofs.reply.write.Statement.{statement}
 use Rattle.frame.proofs.reply.write.Tie as tie
 
--- src/reply.rt:105:9
 put-reply-requires : tie.Need-put-reply-requires
 put-reply-requires c κs = search needs
 
--- src/reply.rt:106:5
 put-requires : tie.Need-put-requires
 put-requires c κs = omega (arith, reply-most _ _ _ (c .before .before .before .put-reply .ensures), c .before .before .before .before .before .before .before .before .good)
 
--- src/reply.rt:102:1
 same-length : tie.Need-same-length
 same-length c = search needs
 
--- src/reply.rt:102:1
 returns : tie.Need-returns
 returns c = put-then (c .before .before .before .before .before .before .put-reply .ensures) (c .before .before .put .ensures)
 

@@ -6,27 +6,21 @@ use borrow.Author.Needs.{needs}
 use Rattle.frame.proofs.request.read.Statement.{statement}
 use Rattle.frame.proofs.request.read.Tie as tie
 
--- src/request.rt:66:9
 all-digits-requires : tie.Need-all-digits-requires
 all-digits-requires c κs = search needs
 
--- src/request.rt:67:9
 returns : tie.Need-returns
 returns c = sym (no-digits _ (sym (c .before .all-digits .ensures) ∙ not-true _ (c .if1 .taken)))
 
--- src/request.rt:69:9
 form-of-requires : tie.Need-form-of-requires
 form-of-requires c κs = search needs
 
--- src/request.rt:70:22
 mul-if2 : tie.Need-mul-if2
 mul-if2 c = omega arith
 
--- src/request.rt:71:9
 returns-2 : tie.Need-returns-2
 returns-2 c = sym (other-length _ _ (c .before .before .form-of .ensures .0) (sym (c .before .before .before .before .all-digits .ensures) ∙ not-false _ (c .before .before .before .if1 .left)) (c .if2 .taken))
 
--- src/request.rt:63:1
 returns-3 : tie.Need-returns-3
 returns-3 c = sym (its-length _ _ (c .before .before .form-of .ensures .0) (sym (c .before .before .before .before .all-digits .ensures) ∙ not-false _ (c .before .before .before .if1 .left)) (c .if2 .left))
 

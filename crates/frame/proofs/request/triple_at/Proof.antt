@@ -2,19 +2,15 @@ use borrow.Author.Needs.{needs}
 use Rattle.frame.proofs.request.triple_at.Statement.{statement}
 use Rattle.frame.proofs.request.triple_at.Tie as tie
 
--- src/request.rt:35:13
 number-requires : tie.Need-number-requires
 number-requires c κs = search needs
 
--- src/request.rt:36:13
 number-requires-2 : tie.Need-number-requires-2
 number-requires-2 c κs = search needs
 
--- src/request.rt:37:13
 number-requires-3 : tie.Need-number-requires-3
 number-requires-3 c κs = search needs
 
--- src/request.rt:31:1
 returns : tie.Need-returns
 returns c = rw (c .number3 .ensures, c .before .number2 .ensures, c .before .before .number .ensures)
 

@@ -4,19 +4,15 @@ use borrow.Author.Needs.{needs}
 use Rattle.frame.proofs.respond.counts_of.Statement.{statement}
 use Rattle.frame.proofs.respond.counts_of.Tie as tie
 
--- src/respond.rt:150:25
 enum-known-lowered : tie.Need-enum-known-lowered
 enum-known-lowered c = search needs
 
--- src/respond.rt:151:26
 enum-known-lowered-2 : tie.Need-enum-known-lowered-2
 enum-known-lowered-2 c = search needs
 
--- src/respond.rt:146:1
 returns : tie.Need-returns
 returns c = sym (ap countsReply (c .before .lowered .given .1))
 
--- src/respond.rt:146:1
 returns-2 : tie.Need-returns-2
 returns-2 c = sym (ap countsReply (c .before .lowered2 .given .1))
 

@@ -4,19 +4,15 @@ use borrow.Author.Needs.{needs}
 use Rattle.frame.proofs.respond.id_of.Statement.{statement}
 use Rattle.frame.proofs.respond.id_of.Tie as tie
 
--- src/respond.rt:80:20
 enum-known-answer : tie.Need-enum-known-answer
 enum-known-answer c = search needs
 
--- src/respond.rt:81:25
 enum-known-answer-2 : tie.Need-enum-known-answer-2
 enum-known-answer-2 c = search needs
 
--- src/respond.rt:76:1
 returns : tie.Need-returns
 returns c = sym (ap idReply (c .before .answer .given .1))
 
--- src/respond.rt:76:1
 returns-2 : tie.Need-returns-2
 returns-2 c = sym (ap idReply (c .before .answer2 .given .1))
 

@@ -5,39 +5,30 @@ use borrow.Author.Needs.{needs}
 use Rattle.frame.proofs.respond.respond.Statement.{statement}
 use Rattle.frame.proofs.respond.respond.Tie as tie
 
--- src/respond.rt:208:9
 in-time-requires : tie.Need-in-time-requires
 in-time-requires c κs = search needs
 
--- src/respond.rt:209:9
 same-length : tie.Need-same-length
 same-length c = search needs
 
--- src/respond.rt:209:9
 returns : tie.Need-returns
 returns c = late _ _ (sym (c .before .in-time .ensures _ _ _) ∙ not-true _ (c .if1 .taken))
 
--- src/respond.rt:211:5
 answer-to-requires : tie.Need-answer-to-requires
 answer-to-requires c κs = search needs
 
--- src/respond.rt:199:1
 same-length-2 : tie.Need-same-length-2
 same-length-2 c = search needs
 
--- src/respond.rt:199:1
 same-length-3 : tie.Need-same-length-3
 same-length-3 c = search needs
 
--- src/respond.rt:199:1
 same-length-4 : tie.Need-same-length-4
 same-length-4 c = search needs
 
--- src/respond.rt:199:1
 same-length-5 : tie.Need-same-length-5
 same-length-5 c = search needs
 
--- src/respond.rt:199:1
 returns-2 : tie.Need-returns-2
 returns-2 c = timely _ _ _ (sym (c .before .before .before .before .before .before .before .before .before .before .before .before .before .before .in-time .ensures _ _ _) ∙ not-false _ (c .before .before .before .before .before .before .before .before .before .before .before .before .before .if1 .left)) (c .before .before .before .before .before .before .before .before .answer-to .ensures)
 

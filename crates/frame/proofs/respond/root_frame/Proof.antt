@@ -3,39 +3,30 @@ use borrow.Author.Needs.{needs}
 use Rattle.frame.proofs.respond.root_frame.Statement.{statement}
 use Rattle.frame.proofs.respond.root_frame.Tie as tie
 
--- src/respond.rt:134:8
 used-of-requires : tie.Need-used-of-requires
 used-of-requires c κs = search needs
 
--- src/respond.rt:135:9
 returns : tie.Need-returns
 returns c = λ main aux. root-bad _ _ main aux _ _ (c .before .used-of .ensures) (c .if1 .taken)
 
--- src/respond.rt:137:8
 count-of-requires : tie.Need-count-of-requires
 count-of-requires c κs = search needs
 
--- src/respond.rt:137:34
 room-of-requires : tie.Need-room-of-requires
 room-of-requires c κs = search needs
 
--- src/respond.rt:138:9
 same-length : tie.Need-same-length
 same-length c = search needs
 
--- src/respond.rt:138:9
 returns-2 : tie.Need-returns-2
 returns-2 c = λ main aux. root-full _ _ main aux _ _ (c .before .before .before .before .before .before .used-of .ensures) (c .before .before .before .before .before .if1 .left) _ _ (c .before .before .before .count-of .ensures) (c .before .room-of .ensures) (c .if2 .taken)
 
--- src/respond.rt:140:5
 add-requires : tie.Need-add-requires
 add-requires c κs = room-left _ _ _ (c .before .before .before .before .count-of .ensures) (c .before .before .room-of .ensures) (c .before .if2 .left)
 
--- src/respond.rt:131:1
 same-length-2 : tie.Need-same-length-2
 same-length-2 c = search needs
 
--- src/respond.rt:131:1
 returns-3 : tie.Need-returns-3
 returns-3 c = λ main aux. root-added _ _ main aux _ _ (c .before .before .before .before .before .before .before .before .before .before .used-of .ensures) (c .before .before .before .before .before .before .before .before .before .if1 .left) _ _ _ (c .before .before .before .before .before .before .before .count-of .ensures) (c .before .before .before .before .before .room-of .ensures) (c .before .before .before .before .if2 .left) (c .before .before .add .ensures)
 

@@ -4,35 +4,27 @@ use borrow.Author.Needs.{needs}
 use Rattle.frame.proofs.respond.start.Statement.{statement}
 use Rattle.frame.proofs.respond.start.Tie as tie
 
--- src/respond.rt:98:28
 start-requires : tie.Need-start-requires
 start-requires c κs = search needs
 
--- src/respond.rt:98:9
 number-of-requires : tie.Need-number-of-requires
 number-of-requires c κs = search needs
 
--- src/respond.rt:100:9
 clear-requires : tie.Need-clear-requires
 clear-requires c κs = search needs
 
--- src/respond.rt:101:9
 same-length : tie.Need-same-length
 same-length c = search needs
 
--- src/respond.rt:101:9
 same-length-2 : tie.Need-same-length-2
 same-length-2 c = search needs
 
--- src/respond.rt:101:9
 returns : tie.Need-returns
 returns c = λ main aux. start-cleared _ _ main aux _ (c .before .before .before .before .before .before .before .before .start .result) _ _ (c .before .before .before .before .before .number-of .ensures) (c .before .before .before .before .before .before .before .before .start .ensures) _ (c .before .before .before .before .if1 .taken) (c .before .before .clear .ensures)
 
--- src/respond.rt:95:1
 same-length-3 : tie.Need-same-length-3
 same-length-3 c = search needs
 
--- src/respond.rt:95:1
 returns-2 : tie.Need-returns-2
 returns-2 c = λ main aux. start-refused _ _ main aux _ (c .before .before .before .before .start .result) _ _ (c .before .number-of .ensures) (c .before .before .before .before .start .ensures) (c .if1 .left)
 

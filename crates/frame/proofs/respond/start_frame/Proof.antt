@@ -4,41 +4,32 @@ use borrow.Author.Needs.{needs}
 use Rattle.frame.proofs.respond.start_frame.Statement.{statement}
 use Rattle.frame.proofs.respond.start_frame.Tie as tie
 
--- src/respond.rt:111:14
 start-requires : tie.Need-start-requires
 start-requires c κs = search needs
 
--- src/respond.rt:112:14
 start-requires-2 : tie.Need-start-requires-2
 start-requires-2 c κs = search needs
 
--- src/respond.rt:107:1
 same-length : tie.Need-same-length
 same-length c = search needs
 
--- src/respond.rt:107:1
 same-length-2 : tie.Need-same-length-2
 same-length-2 c = search needs
 
--- src/respond.rt:107:1
 returns : tie.Need-returns
 unfolding startAnswer
 returns c = λ main aux. start-picked _ _ main aux 1 _ _ (c .before .before .before .before .before .before .before .match .keys1) (c .before .before .before .before .start .ensures main aux)
 
--- src/respond.rt:107:1
 same-length-3 : tie.Need-same-length-3
 same-length-3 c = search needs
 
--- src/respond.rt:107:1
 same-length-4 : tie.Need-same-length-4
 same-length-4 c = search needs
 
--- src/respond.rt:107:1
 returns-2 : tie.Need-returns-2
 unfolding startAnswer
 returns-2 c = λ main aux. start-picked _ _ main aux 2 _ _ (c .before .before .before .before .before .before .before .match .keys2) (c .before .before .before .before .start2 .ensures main aux)
 
--- src/respond.rt:107:1
 returns-3 : tie.Need-returns-3
 returns-3 c = λ main aux. start-other _ _ main aux _ (c .match .rest .0 .1) (c .match .rest .1)
 

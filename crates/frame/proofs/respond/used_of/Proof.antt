@@ -5,15 +5,12 @@ use borrow.Author.Needs.{needs}
 use Rattle.frame.proofs.respond.used_of.Statement.{statement}
 use Rattle.frame.proofs.respond.used_of.Tie as tie
 
--- src/respond.rt:42:9
 returns : tie.Need-returns
 returns c = sym (List·getD-eq-default (c .before .args .m .now) 0 {n = 1} (omega arith))
 
--- src/respond.rt:44:5
 shared-slice-read-result : tie.Need-shared-slice-read-result
 shared-slice-read-result c = search needs
 
--- src/respond.rt:38:1
 returns-2 : tie.Need-returns-2
 returns-2 c = search needs
 

@@ -5,40 +5,32 @@ use borrow.Author.Needs.{needs}
 use Rattle.frame.proofs.roots.add.Statement.{statement}
 use Rattle.frame.proofs.roots.add.Tie as tie
 
--- src/roots.rt:38:9
 count-of-requires : tie.Need-count-of-requires
 count-of-requires c κs = search needs
 
--- src/roots.rt:39:11
 add-roots : tie.Need-add-roots
 unfolding rootCount rootRoom
 add-roots c = omega (arith, c .count-of .ensures)
 
--- src/roots.rt:39:5
 mul-roots : tie.Need-mul-roots
 unfolding rootCount rootRoom
 mul-roots c = omega (arith, c .count-of .ensures)
 
--- src/roots.rt:39:5
 slice-write-roots : tie.Need-slice-write-roots
 unfolding rootCount rootRoom
 slice-write-roots c = omega (arith, c .count-of .ensures)
 
--- src/roots.rt:40:17
 add-roots-2 : tie.Need-add-roots-2
 unfolding rootCount rootRoom
 add-roots-2 c = omega (arith, c .count-of .ensures)
 
--- src/roots.rt:40:5
 slice-write-roots-2 : tie.Need-slice-write-roots-2
 unfolding rootCount rootRoom
 slice-write-roots-2 c = simp length-set (omega (arith, c .count-of .ensures))
 
--- src/roots.rt:34:1
 same-length : tie.Need-same-length
 same-length c = search needs
 
--- src/roots.rt:34:1
 returns : tie.Need-returns
 unfolding withRoot
 returns c = rw (c .count-of .ensures)

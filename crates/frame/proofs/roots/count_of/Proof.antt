@@ -4,31 +4,25 @@ use borrow.Author.Needs.{needs}
 use Rattle.frame.proofs.roots.count_of.Statement.{statement}
 use Rattle.frame.proofs.roots.count_of.Tie as tie
 
--- src/roots.rt:23:9
 room-of-requires : tie.Need-room-of-requires
 room-of-requires c κs = search needs
 
--- src/roots.rt:25:9
 returns : tie.Need-returns
 unfolding rootCount
 returns c = omega (arith, c .before .room-of .ensures)
 
--- src/roots.rt:27:8
 shared-slice-read-if2 : tie.Need-shared-slice-read-if2
 unfolding rootRoom
 shared-slice-read-if2 c = omega (arith, c .before .before .room-of .ensures)
 
--- src/roots.rt:28:16
 shared-slice-read-result : tie.Need-shared-slice-read-result
 unfolding rootRoom
 shared-slice-read-result c = omega (arith, c .before .before .before .before .room-of .ensures)
 
--- src/roots.rt:28:9
 returns-2 : tie.Need-returns-2
 unfolding rootCount
 returns-2 c = omega (arith, c .before .before .before .before .room-of .ensures)
 
--- src/roots.rt:20:1
 returns-3 : tie.Need-returns-3
 unfolding rootCount
 returns-3 c = omega (arith, c .before .before .before .room-of .ensures)

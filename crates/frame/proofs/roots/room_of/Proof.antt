@@ -4,25 +4,20 @@ use borrow.Author.Needs.{needs}
 use Rattle.frame.proofs.roots.room_of.Statement.{statement}
 use Rattle.frame.proofs.roots.room_of.Tie as tie
 
--- src/roots.rt:12:9
 returns : tie.Need-returns
 unfolding rootRoom
 returns c = omega arith
 
--- src/roots.rt:14:8
 sub-if2 : tie.Need-sub-if2
 sub-if2 c = search needs
 
--- src/roots.rt:15:16
 sub-result : tie.Need-sub-result
 sub-result c = search needs
 
--- src/roots.rt:15:9
 returns-2 : tie.Need-returns-2
 unfolding rootRoom
 returns-2 c = omega arith
 
--- src/roots.rt:8:1
 returns-3 : tie.Need-returns-3
 unfolding rootRoom
 returns-3 c = omega arith

@@ -3,51 +3,39 @@ use borrow.Author.Needs.{needs}
 use Rattle.kept.proofs.calls.frame.Statement.{statement}
 use Rattle.kept.proofs.calls.frame.Tie as tie
 
--- src/calls.rt:25:69
 read-requires : tie.Need-read-requires
 read-requires c κs = search needs
 
--- src/calls.rt:25:9
 respond-requires : tie.Need-respond-requires
 respond-requires c κs = search needs
 
--- src/calls.rt:26:5
 write-requires : tie.Need-write-requires
 write-requires c κs = search needs
 
--- src/calls.rt:11:1
 same-length : tie.Need-same-length
 same-length c = search needs
 
--- src/calls.rt:11:1
 same-length-2 : tie.Need-same-length-2
 same-length-2 c = search needs
 
--- src/calls.rt:11:1
 same-length-3 : tie.Need-same-length-3
 same-length-3 c = search needs
 
--- src/calls.rt:11:1
 same-length-4 : tie.Need-same-length-4
 same-length-4 c = search needs
 
--- src/calls.rt:11:1
 same-length-5 : tie.Need-same-length-5
 same-length-5 c = search needs
 
--- src/calls.rt:11:1
 same-length-6 : tie.Need-same-length-6
 same-length-6 c = search needs
 
--- src/calls.rt:11:1
 same-length-7 : tie.Need-same-length-7
 same-length-7 c = search needs
 
--- src/calls.rt:11:1
 same-length-8 : tie.Need-same-length-8
 same-length-8 c = search needs
 
--- src/calls.rt:11:1
 returns : tie.Need-returns
 returns c = (framed-by _ _ _ _ _ _ _ _ _ _ _ (c .before .before .before .before .before .before .before .before .before .before .before .before .before .before .before .before .before .before .before .before .before .read .ensures) (c .before .before .before .before .before .before .before .before .before .before .before .before .before .before .before .before .before .before .before .before .respond .ensures .0) (c .before .before .write .ensures), c .before .before .before .before .before .before .before .before .before .before .before .before .before .before .before .before .before .before .before .before .respond .ensures .1)
 

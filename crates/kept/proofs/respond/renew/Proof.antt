@@ -4,31 +4,24 @@ use borrow.Author.Needs.{needs}
 use Rattle.kept.proofs.respond.renew.Statement.{statement}
 use Rattle.kept.proofs.respond.renew.Tie as tie
 
--- src/respond.rt:32:8
 kind-of-requires : tie.Need-kind-of-requires
 kind-of-requires c κs = search needs
 
--- src/respond.rt:33:9
 returns : tie.Need-returns
 returns c = nothing-started _ _ _ _ (c .before .before .before .before .before .before .pre) _ (c .before .kind-of .ensures) (c .if1 .taken)
 
--- src/respond.rt:35:5
 class-anew-requires : tie.Need-class-anew-requires
 class-anew-requires c κs = classable _ _ _ _ (c .before .before .before .before .before .before .before .before .before .pre) _ (c .before .before .before .before .kind-of .ensures) (c .before .before .before .if1 .left)
 
--- src/respond.rt:28:1
 same-length : tie.Need-same-length
 same-length c = search needs
 
--- src/respond.rt:28:1
 same-length-2 : tie.Need-same-length-2
 same-length-2 c = search needs
 
--- src/respond.rt:28:1
 same-length-3 : tie.Need-same-length-3
 same-length-3 c = search needs
 
--- src/respond.rt:28:1
 returns-2 : tie.Need-returns-2
 returns-2 c = buildable-keeps _ _ _ _ (c .before .before .before .before .before .before .class-anew .ensures)
 

@@ -4,11 +4,9 @@ use Rattle.lower.proofs.redirect.rename.Tie as tie
 use Rattle.lower.proofs.redirect.rename.Reads as reads
 use Rattle.lower.proofs.redirect.rename.Lts as lts
 
--- src/redirect.rt:14:1
 returns : tie.Need-returns
 returns c = rw (eq-eqb _ _ (c .if1 .taken))
 
--- src/redirect.rt:14:1
 returns-2 : tie.Need-returns-2
 returns-2 c = rw (ne-eqb _ _ (c .if1 .left))
 

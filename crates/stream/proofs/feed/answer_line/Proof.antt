@@ -5,59 +5,45 @@ use borrow.Author.Needs.{needs}
 use Rattle.stream.proofs.feed.answer_line.Statement.{statement}
 use Rattle.stream.proofs.feed.answer_line.Tie as tie
 
--- src/feed.rt:61:13
 sub-frame : tie.Need-sub-frame
 sub-frame c = search needs
 
--- src/feed.rt:61:13
 part-frame-start : tie.Need-part-frame-start
 part-frame-start c = search needs
 
--- src/feed.rt:61:13
 part-frame-end : tie.Need-part-frame-end
 part-frame-end c = search needs
 
--- src/feed.rt:52:11
 frame-requires : tie.Need-frame-requires
 frame-requires c κs = search needs
 
--- src/feed.rt:51:5
 add-result : tie.Need-add-result
 add-result c = omega (arith, few-written _ _ _ _ _ _ (c .before .before .before .before .before .before .before .before .before .before .before .before .before .before .before .before .frame .ensures .0) (c .before .before .before .before .before .before .before .before .before .before .before .before .before .before .before .before .frame .kept .1 .1 .0) (c .before .before .before .before .before .before .before .before .before .before .before .before .before .before .before .before .frame .kept .1 .1 .1 .0), c .before .before .before .before .before .before .before .before .before .before .before .before .before .before .before .before .before .before .before .before .before .before .before .before .before .before .before .before .before .before .before .before .before .before .pre .0, c .before .before .before .before .before .before .before .before .before .before .before .before .before .before .before .before .before .before .before .before .before .before .before .before .before .before .before .before .before .before .before .before .before .before .good)
 
--- src/feed.rt:36:1
 same-length : tie.Need-same-length
 same-length c = search needs
 
--- src/feed.rt:36:1
 same-length-2 : tie.Need-same-length-2
 same-length-2 c = search needs
 
--- src/feed.rt:36:1
 same-length-3 : tie.Need-same-length-3
 same-length-3 c = search needs
 
--- src/feed.rt:36:1
 same-length-4 : tie.Need-same-length-4
 same-length-4 c = search needs
 
--- src/feed.rt:36:1
 same-length-5 : tie.Need-same-length-5
 same-length-5 c = search needs
 
--- src/feed.rt:36:1
 same-length-6 : tie.Need-same-length-6
 same-length-6 c = search needs
 
--- src/feed.rt:36:1
 same-length-7 : tie.Need-same-length-7
 same-length-7 c = search needs
 
--- src/feed.rt:36:1
 same-length-8 : tie.Need-same-length-8
 same-length-8 c = search needs
 
--- src/feed.rt:36:1
 returns : tie.Need-returns
 returns c = (line-answered _ _ _ _ _ _ (c .before .before .before .before .before .before .before .before .before .before .before .before .before .before .before .before .frame .ensures .0) (c .before .before .before .before .before .before .before .before .before .before .before .before .before .before .before .before .frame .kept .1 .1 .0) (c .before .before .before .before .before .before .before .before .before .before .before .before .before .before .before .before .frame .kept .1 .1 .1 .0) _ _ refl (c .before .before .before .before .before .before .before .before .before .before .before .before .before .before .before .before .before .before .before .before .before .before .before .before .before .before .before .before .before .before .before .before .before .before .pre .0), c .before .before .before .before .before .before .before .before .before .before .before .before .before .before .before .before .frame .ensures .1)
 

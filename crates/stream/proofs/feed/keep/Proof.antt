@@ -4,23 +4,18 @@ use borrow.Author.Needs.{needs}
 use Rattle.stream.proofs.feed.keep.Statement.{statement}
 use Rattle.stream.proofs.feed.keep.Tie as tie
 
--- src/feed.rt:28:9
 returns : tie.Need-returns
 returns c = (omega arith, keep-full _ _ _ (c .before .pre .0) (c .if1 .taken) (c .before .pre .1))
 
--- src/feed.rt:30:5
 slice-write-line : tie.Need-slice-write-line
 slice-write-line c = search needs
 
--- src/feed.rt:31:5
 add-result : tie.Need-add-result
 add-result c = search needs
 
--- src/feed.rt:23:1
 same-length : tie.Need-same-length
 same-length c = search needs
 
--- src/feed.rt:23:1
 returns-2 : tie.Need-returns-2
 returns-2 c = (omega arith, keep-more _ _ _ (c .if1 .left) (c .before .pre .1))
 
