@@ -42,7 +42,7 @@ table =
     -- an extension constant that unlifts becomes a base constant
     ∷ (shown (extensionCall (five 0) (triple 1 0 0)) ++ shown (extensionCall (five 1) (triple 1 0 1)), 0 ∷ 3 ∷ 5 ∷ 0 ∷ 5 ∷ 6 ∷ [])
     -- add: right zero gives left; left zero gives right. Multiply: right one gives left; left one gives right; right zero, then left zero
-    ∷ (map (λ r. operationCall (five 0) Add 0 r .values) (2 ∷ []) ++ map (λ l. operationCall (five 0) Add l 0 .values) (2 ∷ []), 0 ∷ 0 ∷ [])
+    ∷ (shown (operationCall (five 0) Add 1 2) ++ shown (operationCall (five 0) Add 2 1), 0 ∷ 1 ∷ 5 ∷ 0 ∷ 1 ∷ 5 ∷ [])
     ∷ (map (λ r. operationCall (five 0) Multiply 4 r .values) (3 ∷ 2 ∷ []) ++ map (λ l. operationCall (five 0) Multiply l 4 .values) (3 ∷ 2 ∷ []), 4 ∷ 2 ∷ 4 ∷ 2 ∷ [])
     ∷ (map (λ r. operationCall (five 0) Multiply 2 r .values) (2 ∷ 3 ∷ []) ++ (operationCall (five 0) Multiply 3 2 .values ∷ []), 2 ∷ 2 ∷ 2 ∷ [])
     -- in that order, which can be seen where two leaves are equal
