@@ -1,4 +1,4 @@
--- Reading order: as listed, after the field's Base and Extension.
+-- Reading order: as listed, after arithmetic's Base and Extension.
 pub mod Lists
 pub mod Words
 pub mod Tree
