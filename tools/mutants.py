@@ -16,7 +16,7 @@ import tempfile
 
 ROOT = os.path.dirname(os.path.dirname(os.path.abspath(__file__)))
 # modules that define nothing which a contract cites
-PASSED_OVER = {'Lib', 'Examples', 'Samples', 'Computing', 'Starred', 'Beside'}
+PASSED_OVER = {'Lib', 'Examples', 'BoardExamples', 'Samples', 'Computing', 'Starred', 'Beside'}
 # lines that no change is made in
 OTHERS = ('use ', '--', 'pub ', 'record', 'infix', 'unfolding', 'abbrev', 'unfoldable')
 

@@ -1,2 +1,3 @@
 pub mod Words
 pub mod Folds
+pub mod Board

@@ -162,7 +162,7 @@ above t h = omega arith
 above-low : (t h : ℕ) → (t * 2 ^ 64 + h) % 2 ^ 32 ≡ h % 2 ^ 32
 above-low t h = omega arith
 
-folded : (H l t : ℕ) → Difference l (H / 2 ^ 32) t → add t (H % 2 ^ 32 * 4294967295) ≡ (H * 2 ^ 64 + l) % p
+pub folded : (H l t : ℕ) → Difference l (H / 2 ^ 32) t → add t (H % 2 ^ 32 * 4294967295) ≡ (H * 2 ^ 64 + l) % p
 folded H l t (plain h e) = fold-by H l t 0 (e ∙ sym (add-zero l))
 folded H l t (around h e) = fold-by H l t 1 e
 
