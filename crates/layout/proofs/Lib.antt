@@ -3,6 +3,7 @@ pub mod Tests
 pub mod Lists
 pub mod Valid
 pub mod Trees
+pub mod Lifted
 pub mod Refusals
 pub mod Unique
 pub mod Cycle

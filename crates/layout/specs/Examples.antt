@@ -15,6 +15,7 @@ use Rattle.layout.specs.Lists.{upTo, keep, distinct, each, written, coun
 use Rattle.layout.specs.Words.{rowKind, used, limit, word, decode, isMain, isNext, column, encode, constant, constantIs}
 use Rattle.layout.specs.Tree.{tree, same}
 use Rattle.layout.specs.NotCircuit.{notCircuit}
+use Rattle.layout.specs.Lifted.{liftedIs}
 use Rattle.layout.specs.Outcomes.{Outcome}
 use Rattle.layout.specs.Calls.{startCall, readCall, usedCall, freeCall}
 use Rattle.layout.specs.Samples.{sample, damage, loosen}
@@ -67,7 +68,9 @@ table =
     )
     -- an extension constant that unlifts becomes a base constant; the tests for a constant
     ∷ (encode (constant (triple 5 0 0)) ++ encode (constant (triple 5 0 6)), 0 ∷ 5 ∷ 0 ∷ 0 ∷ 1 ∷ 5 ∷ 0 ∷ 6 ∷ [])
-    ∷ (map (λ e. bit (constantIs 1 e)) (Base 1 ∷ Base 2 ∷ Extension (triple 1 0 0) ∷ Extension (triple 1 0 1) ∷ Challenge 1 ∷ Operation Add 1 1 ∷ Input (Main 1) ∷ []), 1 ∷ 0 ∷ 1 ∷ 0 ∷ 0 ∷ 0 ∷ 0 ∷ [])
+    ∷ (map (λ e. bit (constantIs 1 e)) (Base 1 ∷ Base 2 ∷ Extension (triple 1 0 0) ∷ Extension (triple 1 0 1) ∷ Challenge 1 ∷ Operation Add 1 1 ∷ Input (Main 1) ∷ []), 1 ∷ 0 ∷ 0 ∷ 0 ∷ 0 ∷ 0 ∷ 0 ∷ [])
+    -- a branch for lifted constants could say yes of words that are NOT_CIRCUIT alone
+    ∷ (map (λ e. bit (liftedIs 1 e)) (Base 1 ∷ Extension (triple 1 0 0) ∷ Extension (triple 2 0 0) ∷ Extension (triple 1 0 1) ∷ Challenge 1 ∷ Operation Add 1 1 ∷ Input (Main 1) ∷ []), 0 ∷ 1 ∷ 0 ∷ 0 ∷ 0 ∷ 0 ∷ 0 ∷ [])
     -- constant word at or above p, extension constant that unlifts, index over the bound
     ∷ (map (alone 1) (Base (p - 1) ∷ Base p ∷ []), 0 ∷ 1 ∷ [])
     ∷ (map (alone 1) (Extension (triple 0 0 1) ∷ Extension (triple 0 1 0) ∷ Extension (triple 1 0 0) ∷ Extension (triple p 1 0) ∷ Extension (triple 0 p 0) ∷ Extension (triple 0 1 p) ∷ []), 0 ∷ 0 ∷ 1 ∷ 1 ∷ 1 ∷ 1 ∷ [])

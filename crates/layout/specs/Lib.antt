@@ -3,6 +3,7 @@ pub mod Lists
 pub mod Words
 pub mod Tree
 pub mod NotCircuit
+pub mod Lifted
 pub mod Outcomes
 pub mod Calls
 pub mod Answers

@@ -11,7 +11,7 @@ use mathlib.Core.List.{List, [], _∷_, _++_}
 use lib.ListN.{length, getD, set, take, drop}
 use lib.Dec.{eqb}
 use Rattle.arithmetic.specs.declared.Triple.{Triple}
-use Rattle.arithmetic.specs.Extension.{triple, lift, unlifts, sameTriple, plus, times}
+use Rattle.arithmetic.specs.Extension.{triple, lift, unlifts, plus, times}
 use Rattle.layout.specs.declared.node.RowKind.{RowKind}
 use Rattle.layout.specs.declared.node.RowKind.the-variants.{Single, Dual}
 use Rattle.layout.specs.declared.node.Position.{Position}
@@ -134,10 +134,10 @@ constantOf (Input q) = none
 unfoldable pub constant : Triple → Expression
 constant x = if unlifts x then Base (x .c0) else Extension x
 
--- the tests for 0, 1 and -1: an expression is the constant w, in the base field or lifted
+-- the tests for 0, 1 and -1: an expression is the base constant w. An extension constant never is: one that unlifts isn't stored (Lifted.antt)
 abbrev pub constantIs : ℕ → Expression → Bool
 constantIs w (Base v) = eqb v w
-constantIs w (Extension x) = sameTriple x (lift w)
+constantIs w (Extension x) = false
 constantIs w (Challenge k) = false
 constantIs w (Operation o l r) = false
 constantIs w (Input q) = false

@@ -7,7 +7,7 @@ use native.Mathlib.Omega.{arith}
 use lib.Dec.{eqb}
 use Rattle.arithmetic.specs.declared.Triple.{Triple}
 use Rattle.arithmetic.specs.Base.{add, multiply}
-use Rattle.arithmetic.specs.Extension.{Canonical, lift, sameTriple, plus, times}
+use Rattle.arithmetic.specs.Extension.{Canonical, lift, plus, times}
 use Rattle.arithmetic.proofs.Algebra.{canonical-plus, canonical-times, lift-plus, lift-times}
 use Rattle.layout.specs.Lists.{if_then_else_}
 use Rattle.layout.specs.declared.node.Position.{Position}
@@ -95,7 +95,7 @@ zero-or-one false = omega arith
 
 pub leaf-low : (x : Leaf) → leafDegree⁺ x ≤ 2
 leaf-low (baseLeaf w) = omega (arith, zero-or-one (eqb w 0))
-leaf-low (extensionLeaf x) = omega (arith, zero-or-one (sameTriple x (lift 0)))
+leaf-low (extensionLeaf x) = omega arith
 leaf-low (challengeLeaf k) = omega arith
 leaf-low (inputLeaf x) = omega arith
 

@@ -7,7 +7,6 @@ use mathlib.Core.List.{List}
 use native.Mathlib.Omega.{arith}
 use lib.IntN.{pos}
 use lib.Dec.{eqb}
-use Rattle.arithmetic.specs.Extension.{lift, sameTriple}
 use Rattle.layout.specs.declared.node.Op.{Op}
 use Rattle.layout.specs.declared.node.Op.the-variants.{Add, Multiply}
 use Rattle.layout.specs.NotCircuit.{notCircuit}
@@ -60,7 +59,7 @@ degree-folds = record { at-leaf = λ i a. small (leafDegree⁺ a) (own a); at-br
 
     own : (a : Leaf) → leafDegree⁺ a ≤ 2
     own (baseLeaf w) = zero-or-one (eqb w 0)
-    own (extensionLeaf x) = zero-or-one (sameTriple x (lift 0))
+    own (extensionLeaf x) = omega arith
     own (challengeLeaf k) = omega arith
     own (inputLeaf q) = omega arith
 

@@ -5,7 +5,6 @@ use crate::step::operands_of;
 use crate::step::step_at;
 use circuit::check::check;
 use circuit::place::expression_at;
-use field::extension;
 use layout::node::Expression;
 use layout::node::Op;
 use layout::refusal::BAD_ID;
@@ -60,7 +59,7 @@ fn degree_over(o: Op, a: u64, b: u64) -> u64
     }
 }
 
-// What the table starts with: a zero constant -1, other constants and challenges 0, input 1.
+// What the table starts with: a zero constant -1, other constants and challenges 0, input 1. A zero constant is a base constant.
 fn leaf_degree(e: Expression) -> u64
     ensures { λ r. ⌜ r ≡ degreeEntry e ⌝ }
 {
@@ -71,12 +70,7 @@ fn leaf_degree(e: Expression) -> u64
             }
             1
         }
-        Expression::Extension(x) => {
-            if extension::equal(x, extension::lift(0)) {
-                return 0;
-            }
-            1
-        }
+        Expression::Extension(_) => 1,
         Expression::Challenge(_) => 1,
         Expression::Operation(_, _, _) => UNKNOWN,
         Expression::Input(_) => 2,

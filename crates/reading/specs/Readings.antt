@@ -6,7 +6,7 @@ use lib.ListN.{length}
 use lib.IntN.{ℤ, pos, negsuc}
 use lib.Dec.{ltb, eqb}
 use Rattle.arithmetic.specs.declared.Triple.{Triple}
-use Rattle.arithmetic.specs.Extension.{lift, sameTriple}
+use Rattle.arithmetic.specs.Extension.{lift}
 use Rattle.layout.specs.declared.node.Position.{Position}
 use Rattle.layout.specs.declared.node.Position.the-variants.{Main, Aux, NextMain, NextAux}
 use Rattle.layout.specs.declared.node.Op.the-variants.{Add, Multiply}
@@ -18,7 +18,7 @@ use Rattle.walking.specs.Paths.{walks}
 -- DEGREE, as a number one higher, so that -1 is 0: a zero constant -1, other constants and challenges 0, input 1
 abbrev pub leafDegree⁺ : Leaf → ℕ
 leafDegree⁺ (baseLeaf w) = if eqb w 0 then 0 else 1
-leafDegree⁺ (extensionLeaf x) = if sameTriple x (lift 0) then 0 else 1
+leafDegree⁺ (extensionLeaf x) = 1
 leafDegree⁺ (challengeLeaf k) = 1
 leafDegree⁺ (inputLeaf q) = 2
 

@@ -5,15 +5,6 @@ use Rattle.circuit.proofs.constants.constant_is.Tie as tie
 enum-known-e : tie.Need-enum-known-e
 enum-known-e c = search needs
 
-enum-known-e-2 : tie.Need-enum-known-e-2
-enum-known-e-2 c = search needs
-
-lift-requires : tie.Need-lift-requires
-lift-requires c κs = search needs
-
-equal-requires : tie.Need-equal-requires
-equal-requires c κs = search needs
-
 enum-told : tie.Need-enum-told
 enum-told c = search needs
 
@@ -23,11 +14,14 @@ enum-told-2 c = search needs
 enum-told-3 : tie.Need-enum-told-3
 enum-told-3 c = search needs
 
+enum-told-4 : tie.Need-enum-told-4
+enum-told-4 c = search needs
+
 returns : tie.Need-returns
 returns c = rw (c .before .e .given .1)
 
 returns-2 : tie.Need-returns-2
-returns-2 c = rw (c .before .before .before .e2 .given .1, ← c .before .lift .ensures) (c .equal .ensures)
+returns-2 c = search needs
 
 returns-3 : tie.Need-returns-3
 returns-3 c = search needs
@@ -43,12 +37,10 @@ constant-is-spec =
     tie.close
     (tie.spec
     enum-known-e
-    enum-known-e-2
-    lift-requires
-    equal-requires
     enum-told
     enum-told-2
     enum-told-3
+    enum-told-4
     returns
     returns-2
     returns-3
