@@ -48,7 +48,7 @@ enum {
     ATZ_FULL = 6,        /* more new nodes needed than free places; lowering: fewer than 3·M free */
     ATZ_EMPTY = 7,       /* the sum of no ids */
     ATZ_TARGET = 8,      /* a target below 2 */
-    ATZ_COLUMNS = 9,     /* lowering: a used current-row input at or above its count, or a count + M over 65,536 */
+    ATZ_COLUMNS = 9,     /* lowering: a used input, of either row, at or above its count, or a count + M over 65,536 */
     ATZ_LOOSE = 10,      /* lowering: a loose node below a root, or a loose root */
     ATZ_DEGREE = 11,     /* a degree over 2,147,483,647 */
     ATZ_PATHS = 12,      /* a path count over 4,294,967,295 */

@@ -4,7 +4,8 @@
     check.py FILE...     vectors; fails on any disagreement
     check.py --frames    document 01's frame program on standard input
 
-Written from document 01 alone, not from the Rust, with all its refusals. So
+Written from document 01 and the requests that change it (docs/REQUESTS.md), not
+from the Rust, with all refusals. So
 agreement shows two things: the vectors lie in the domain (nothing in them is
 refused), and document 01 and the Rust say the same there. It prints one line a
 file, then how often each rule was met.
@@ -274,10 +275,9 @@ class Circuit:
             raise Refused(LOOSE)
         m = sum(d > 1 for d in degrees.values())
         for e in self.expressions:
-            if e[0] in (MAIN, AUX) and e[1] >= counts[e[0] - MAIN]:
+            # Request 4: an input of either row.
+            if e[0] >= MAIN and e[1] >= counts[(e[0] - MAIN) % 2]:
                 raise Refused(COLUMNS)
-            if e[0] in (NEXT_MAIN, NEXT_AUX) and e[1] >= counts[e[0] - NEXT_MAIN]:
-                met["lowering with a next-row column above its count"] += 1
         if any(count + m > 65_536 for count in counts):
             raise Refused(COLUMNS)
         occurrences = self.occurrences(order, degrees, target)

@@ -115,7 +115,7 @@ refusals! {
     Full = 6, "FULL", "more new nodes needed than free places; lowering: fewer than 3·M free";
     Empty = 7, "EMPTY", "the sum of no ids";
     Target = 8, "TARGET", "a target below 2";
-    Columns = 9, "COLUMNS", "lowering: a used current-row input at or above its count, or a count + M over 65,536";
+    Columns = 9, "COLUMNS", "lowering: a used input, of either row, at or above its count, or a count + M over 65,536";
     Loose = 10, "LOOSE", "lowering: a loose node below a root, or a loose root";
     Degree = 11, "DEGREE", "a degree over 2,147,483,647";
     Paths = 12, "PATHS", "a path count over 4,294,967,295";

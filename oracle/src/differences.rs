@@ -87,6 +87,14 @@ fn columns() {
     println!("COLUMNS: count 65,535, x^8: the second new column is 65,536");
     let circuit = frames("0001 01000000 0600000000 0600010001 0600020002 090003 0a0002ffff0000");
     show(&*circuit);
+    println!("COLUMNS: column 5 of the next row, main count 4: the second new column is 5");
+    let reads = "0002 01000000 01020005 0600000000 0600020000 0600030003 0500040001 090005";
+    let circuit = frames(&format!("{reads} 0a000200040000"));
+    show(&*circuit);
+    println!("COLUMNS: x^4 and a next-row column at the main count, below no root");
+    frames("0002 01000000 01020001 0600000000 0600020002 090003 0a000200010000");
+    println!("COLUMNS: the same with a next-row auxiliary column, and no auxiliary column is added");
+    frames("0002 01000000 01030000 0600000000 0600020002 090003 0a000200010000");
 }
 
 fn loose() {

@@ -64,8 +64,9 @@ const EXAMPLES: [(&str, &str); 15] = [
         "0001 01000000 030000000000000000 0700000001 080001 !",
     ),
     (
-        "a next-row column may lie above the count",
-        "0002 01000000 01020005 0600000001 0600020002 090003 0a000200010000 !",
+        "the count lies above a next-row column: x^6 plus column 5 of the next row",
+        "0002 01000000 01020005 0600000000 0600020000 0600030003 0500040001 090005 \
+         0a000200060000 !",
     ),
     (
         "zero as a root beside a high one, one root twice",

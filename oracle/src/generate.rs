@@ -236,14 +236,13 @@ impl<'a> Grower<'a> {
 
     // ---- roots and lowering
 
-    /// The least counts that COLUMNS allows, and now and then some more.
+    /// The least counts that COLUMNS allows, for inputs of both rows, and now
+    /// and then some more.
     fn counts(&mut self) -> [usize; 2] {
         let mut counts = [0; 2];
         for node in &self.to.nodes {
-            if let Expression::Input { row, column } = node.expression
-                && row < 2
-            {
-                let count = &mut counts[usize::from(row)];
+            if let Expression::Input { row, column } = node.expression {
+                let count = &mut counts[usize::from(row) % 2];
                 *count = (column + 1).max(*count);
             }
         }

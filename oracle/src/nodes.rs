@@ -147,7 +147,7 @@ impl Survey {
         }
         let m = below.iter().filter(|&&id| self.degree[id] > 1).count();
         let too_far = nodes.iter().any(|node| match node.expression {
-            Expression::Input { row, column } if row < 2 => column >= counts[row as usize],
+            Expression::Input { row, column } => column >= counts[row as usize % 2],
             _ => false,
         });
         if too_far || counts.iter().any(|count| count + m > 65_536) {

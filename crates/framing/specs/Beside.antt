@@ -53,6 +53,8 @@ beside =
     ∷ (program "0001\n01000000\n0600000000\n0600010001\n090002\n0a000200010000\n0600000000\n", bytes "00\n000000\n000001\n000002\n00\n00000100000006\n000007\n")
     -- target 1 refused, 2 accepted; count 1 with main input 0 is accepted, count 0 refused when lowering is needed
     ∷ (program "0001\n01000000\n0600000000\n0600010001\n090002\n0a000100010000\n0a000200000000\n0a000400000000\n0a000200010000\n", bytes "00\n000000\n000001\n000002\n00\n08\n09\n0000000000\n00000100000006\n")
+    -- COLUMNS looks at the next row too: x⁶ plus column 5 of the next row, main counts 4, 5 and 6 (request 4)
+    ∷ (program "0002\n01000000\n01020005\n0600000000\n0600020000\n0600030003\n0500040001\n090005\n0a000200040000\n0a000200050000\n0a000200060000\n", bytes "00\n000000\n000001\n000002\n000003\n000004\n000005\n00\n09\n09\n00000200000009000c\n")
     -- lowering again what names a loose node: LOOSE
     ∷ (program "0001\n01000000\n0600000000\n0600010001\n090002\n0a000200010000\n090001\n0600010001\n090007\n0a000200020000\n", bytes "00\n000000\n000001\n000002\n00\n00000100000006\n00\n000007\n00\n0a\n")
     -- FRAME: before 00, a second 00, an unknown opcode, too short, too long, upper case, an odd length, a blank line, a row byte over 03

@@ -8,6 +8,8 @@ use Rattle.layout.specs.Outcomes.{Outcome}
 use Rattle.lowering.specs.declared.Lowered.the-variants.{Counts}
 use Rattle.lowering.specs.Lowering.{Lowering}
 use Rattle.lowering.specs.Calls.{lowerCall, returned}
+use Rattle.lowering.specs.Unread.{Unread}
+use Rattle.lowering.proofs.Unread.{unread}
 use Rattle.lower.specs.Told.{toldLowering}
 use Rattle.grown.specs.Grown.{Grown}
 use Rattle.grown.specs.Promise.{Promise}
@@ -25,6 +27,10 @@ module _ (target mainCount auxCount : ℕ) (lent : Lowering) (k l : ℕ) (x : Lo
 
   pub lower-promises : Grown (lent .circuit) → Promise target mainCount auxCount (lent .circuit) (lent .roots) after
   lower-promises g = subst (λ (o : Outcome (ℕ × ℕ) Lowering). Promise target mainCount auxCount (lent .circuit) (lent .roots) (returned o)) (sym contract) (promised target mainCount auxCount lent g is-accepted)
+
+  -- the new columns are new in both rows
+  pub lower-unread : Unread mainCount auxCount (lent .circuit) after
+  lower-unread = subst (λ (o : Outcome (ℕ × ℕ) Lowering). Unread mainCount auxCount (lent .circuit) (returned o)) (sym contract) (unread target mainCount auxCount lent is-accepted)
 
   pub lower-fills : (main aux challenges : List ℕ) → Wide (x .circuit) main aux challenges → OneFill mainCount auxCount (lent .circuit) (lent .roots) after main aux challenges
   lower-fills =

@@ -1,30 +1,24 @@
 -- Demand 3 for grown circuits: every accepted lowering of one keeps its promise. Assumes nothing.
 use Prim.Native.Nat.{ℕ, suc, _+_, _≤_, _<_}
 use mathlib.Core.Path.{_≡_, refl, ap, _∙_}
-use mathlib.Core.Logic.{_≢_, _⊎_, inl, inr, ⊎-elim}
-use mathlib.Core.Bool.{Bool, true, false}
-use mathlib.Core.Option.{some}
+use mathlib.Core.Logic.{inl, inr, ⊎-elim}
+use mathlib.Core.Bool.{false}
 use mathlib.Core.List.{List}
-use native.Mathlib.Omega.{arith}
 use lib.ListN.{length, getD}
 use borrow.Author.Tests.{le-ltb}
 use Rattle.arithmetic.specs.Base.{minusOne}
 use Rattle.layout.specs.declared.node.Position.{Position}
 use Rattle.layout.specs.declared.node.Position.the-variants.{Main, Aux}
-use Rattle.layout.specs.declared.node.Expression.{Expression}
 use Rattle.layout.specs.declared.node.Op.the-variants.{Add, Multiply}
 use Rattle.layout.specs.declared.node.Expression.the-variants.{Base, Operation, Input}
-use Rattle.layout.specs.Words.{used, expressionAt}
 use Rattle.layout.specs.Tree.{tree}
 use Rattle.reading.specs.Readings.{Assignment, degree⁺, above, value}
-use Rattle.lowering.specs.Lowering.{Lowering, tooHigh}
+use Rattle.lowering.specs.Lowering.{Lowering}
 use Rattle.lowering.specs.Calls.{lowerCall, returned}
 use Rattle.lowering.specs.Demand.{Cells, valuesOf, Demand3, Filled}
-use Rattle.lowering.proofs.Shape.{exprOf}
-use Rattle.lowering.proofs.Words.{look-in, says}
-use Rattle.lowering.proofs.OneMore.{Taken}
-use Rattle.lowering.proofs.Accepts.{accepted, columns-start, first-tests, then-tests}
+use Rattle.lowering.proofs.Words.{says}
 use Rattle.lowering.proofs.Theorem.{demand3}
+use Rattle.lowering.proofs.Unread.{unread}
 use Rattle.grown.specs.Grown as grown
 use Rattle.grown.specs.Grown.{Grown}
 use Rattle.grown.specs.Promise.{with-new, Difference, ExactlyOne, Promise}
@@ -50,29 +44,6 @@ one-choice mc ac m roots after a h (b, f) =
 -- for every lowering that is accepted, of any lent words
 pub accepted-one : (target mainCount auxCount : ℕ) (lent : Lowering) → lowerCall target mainCount auxCount lent .number ≡ 0 → (a : Assignment) → Cells a → ExactlyOne mainCount auxCount (lent .circuit) (lent .roots) (returned (lowerCall target mainCount auxCount lent)) a
 accepted-one T mc ac lent h a c = one-choice mc ac (lent .circuit) (lent .roots) (returned (lowerCall T mc ac lent)) a c (demand3 T mc ac lent h .exactly-one a c)
-
--- no used node reads a column that a list of constraints adds
-unread : (target mainCount auxCount : ℕ) (lent : Lowering) → lowerCall target mainCount auxCount lent .number ≡ 0 → tooHigh target (lent .circuit) (lent .roots) ≡ true → (i : ℕ) → i < used (lent .circuit) → (q : Position) → expressionAt (lent .circuit) i ≡ Input q → Taken (mainCount + 0) (auxCount + 0) q
-unread T mc ac lent h high i l q e =
-    let m : List ℕ = lent .circuit in
-    let (f, g) = first-tests T mc ac lent (accepted T mc ac lent h) in
-    let t = then-tests T mc ac lent (rw high at g) in
-    columns-start mc ac m (lent .roots) (t .columns) i q (look-in m i l ∙ ap (λ (x : Expression). some (exprOf x)) e)
-
--- so none at or above a count, and below it where nothing is added
-module _ (T mc ac : ℕ) (lent : Lowering) (h : lowerCall T mc ac lent .number ≡ 0) (d : Demand3 T mc ac (lent .circuit) (lent .roots) (returned (lowerCall T mc ac lent))) where
-  none-or-high : (tooHigh T (lent .circuit) (lent .roots) ≡ true) ⊎ (length (returned (lowerCall T mc ac lent) .main) ≡ 0) × (length (returned (lowerCall T mc ac lent) .aux) ≡ 0)
-  none-or-high = go (tooHigh T (lent .circuit) (lent .roots)) refl
-    where
-      go : (b : Bool) → tooHigh T (lent .circuit) (lent .roots) ≡ b → (tooHigh T (lent .circuit) (lent .roots) ≡ true) ⊎ (length (returned (lowerCall T mc ac lent) .main) ≡ 0) × (length (returned (lowerCall T mc ac lent) .aux) ≡ 0)
-      go true e = inl e
-      go false e = let (a, b) = d .no-new e in inr (ap length a, ap length b)
-
-  main-free : (c : ℕ) → mc ≤ c → c < mc + length (returned (lowerCall T mc ac lent) .main) → (i : ℕ) → i < used (lent .circuit) → expressionAt (lent .circuit) i ≢ Input (Main c)
-  main-free c a b i l e = ⊎-elim (λ k. omega (arith, unread T mc ac lent h k i l (Main c) e)) (λ k. omega (arith, k .0)) none-or-high
-
-  aux-free : (c : ℕ) → ac ≤ c → c < ac + length (returned (lowerCall T mc ac lent) .aux) → (i : ℕ) → i < used (lent .circuit) → expressionAt (lent .circuit) i ≢ Input (Aux c)
-  aux-free c a b i l e = ⊎-elim (λ k. omega (arith, unread T mc ac lent h k i l (Aux c) e)) (λ k. omega (arith, k .1)) none-or-high
 
 -- a degree, one higher, as a test
 within : (target : ℕ) (m : List ℕ) (i : ℕ) → degree⁺ (tree m i) ≤ suc target → above target m i ≡ false
@@ -108,7 +79,7 @@ promised T mc ac lent g h =
       fewer = d .fewer;
       main-columns = λ k l. difference (after .circuit) (Main (mc + k)) (getD (after .main) k 0) (stands .main k l);
       aux-columns = λ k l. difference (after .circuit) (Aux (ac + k)) (getD (after .aux) k 0) (stands .aux k l);
-      main-unread = λ c a b i l e. main-free T mc ac lent h d c a b i l e;
-      aux-unread = λ c a b i l e. aux-free T mc ac lent h d c a b i l e;
+      main-unread = λ c a b. unread T mc ac lent h .main c a b .0;
+      aux-unread = λ c a b. unread T mc ac lent h .aux c a b .0;
       grown-again = grown.lower lent g T mc ac h;
     }

@@ -87,15 +87,15 @@ pub(crate) fn any_over(degrees: &[u64], occurrences: &[u64], n: u64) -> bool
     false
 }
 
-// A current-row input (any input if single-row) at or above its count.
+// An input, of either row, at or above its count.
 fn at_or_above(main_count: u64, aux_count: u64, q: Position) -> bool
     ensures { λ r. ⌜ r ≡ atOrAbove «main_count» «aux_count» q ⌝ }
 {
     match q {
         Position::Main(c) => main_count <= c,
         Position::Aux(c) => aux_count <= c,
-        Position::NextMain(_) => false,
-        Position::NextAux(_) => false,
+        Position::NextMain(c) => main_count <= c,
+        Position::NextAux(c) => aux_count <= c,
     }
 }
 

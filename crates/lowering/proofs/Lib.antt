@@ -24,3 +24,4 @@ pub mod Fits
 pub mod Example
 pub mod Tables
 pub mod Proper
+pub mod Unread

@@ -27,14 +27,14 @@ use Rattle.lowering.proofs.Chooses.{best-choice}
 abbrev pub Taken : ℕ → ℕ → Position → Type 0
 Taken a b (Main c) = c < a
 Taken a b (Aux c) = c < b
-Taken a b (NextMain c) = Unit {0}
-Taken a b (NextAux c) = Unit {0}
+Taken a b (NextMain c) = c < a
+Taken a b (NextAux c) = c < b
 
 taken-more : (a b a′ b′ : ℕ) → a ≤ a′ → b ≤ b′ → (q : Position) → Taken a b q → Taken a′ b′ q
 taken-more a b a′ b′ h k (Main c) t = omega arith
 taken-more a b a′ b′ h k (Aux c) t = omega arith
-taken-more a b a′ b′ h k (NextMain c) t = tt
-taken-more a b a′ b′ h k (NextAux c) t = tt
+taken-more a b a′ b′ h k (NextMain c) t = omega arith
+taken-more a b a′ b′ h k (NextAux c) t = omega arith
 
 -- what holds before each substitution
 pub record State (mc ac : ℕ) (x : Lowering) : Type 0 where

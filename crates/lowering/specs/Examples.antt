@@ -5,6 +5,7 @@ use lib.ListN.{take, drop, replicate}
 use lib.Dec.{T}
 use Rattle.arithmetic.specs.Base.{p}
 use Rattle.arithmetic.specs.Extension.{triple}
+use Rattle.layout.specs.declared.node.Position.{Position}
 use Rattle.layout.specs.declared.node.Position.the-variants.{Main, Aux, NextMain, NextAux}
 use Rattle.layout.specs.declared.node.Op.the-variants.{Add, Multiply}
 use Rattle.layout.specs.declared.node.Expression.{Expression}
@@ -29,6 +30,10 @@ shown o = (o .number ∷ o .values .0 ∷ o .values .1 ∷ used (o .lent .circui
 unfoldable pub x⁴ : ℕ → List ℕ
 x⁴ free = sample 1 free (Input (Main 0) ∷ Operation Multiply 0 0 ∷ Operation Multiply 1 1 ∷ [])
 
+-- x, x², x⁴ and an input of the next row, which no root reads
+unfoldable pub nextRow : Position → List ℕ
+nextRow q = sample 2 6 (Input (Main 0) ∷ Operation Multiply 0 0 ∷ Operation Multiply 1 1 ∷ Input q ∷ [])
+
 -- x, x², x³ = x·x², x⁶
 unfoldable pub x⁶ : List ℕ
 x⁶ = sample 1 12 (Input (Main 0) ∷ Operation Multiply 0 0 ∷ Operation Multiply 0 1 ∷ Operation Multiply 2 2 ∷ [])
@@ -48,13 +53,16 @@ table =
     ∷ (lowerCall 1 0 0 (lending [] (9 ∷ []) 0) .number ∷ lowerCall 1 0 0 (lending (x⁴ 0) (9 ∷ []) 0) .number ∷ lowerCall 2 0 0 (lending (x⁴ 0) (9 ∷ []) 0) .number ∷ [], 1 ∷ 8 ∷ 2 ∷ [])
     ∷ (shown (lowerCall 4 0 0 (lending (x⁴ 0) (2 ∷ []) 0)) ++ shown (lowerCall 2 0 0 (lending (x⁴ 0) [] 0)), 0 ∷ 0 ∷ 0 ∷ 3 ∷ 2 ∷ 0 ∷ 0 ∷ 0 ∷ 3 ∷ [])
     ∷ (lowerCall 2 0 0 (lending (loosen 1 (x⁴ 0)) (2 ∷ []) 0) .number ∷ lowerCall 2 0 0 (lending (loosen 2 (x⁴ 0)) (2 ∷ []) 0) .number ∷ lowerCall 2 0 0 (lending (x⁴ 0) (2 ∷ []) 0) .number ∷ [], 10 ∷ 10 ∷ 9 ∷ [])
-    -- COLUMNS: any used node, below a root or not; next-row inputs don't count; a count + M over 65,536
+    -- COLUMNS: any used node, below a root or not; inputs of both rows; a count + M over 65,536
     ∷ (
       lowerCall 2 1 0 (lending (sample 1 6 (Input (Main 0) ∷ Operation Multiply 0 0 ∷ Operation Multiply 1 1 ∷ Input (Aux 0) ∷ [])) (2 ∷ []) 2) .number
-          ∷ lowerCall 2 1 0 (lending (sample 2 6 (Input (Main 0) ∷ Operation Multiply 0 0 ∷ Operation Multiply 1 1 ∷ Input (NextMain 9) ∷ Input (NextAux 9) ∷ Base 9 ∷ Extension (triple 9 9 9) ∷ Challenge 9 ∷ [])) (2 ∷ []) 2) .number
+          ∷ lowerCall 2 1 0 (lending (sample 2 6 (Input (Main 0) ∷ Operation Multiply 0 0 ∷ Operation Multiply 1 1 ∷ Base 9 ∷ Extension (triple 9 9 9) ∷ Challenge 9 ∷ [])) (2 ∷ []) 2) .number
           ∷ [],
       9 ∷ 0 ∷ [],
     )
+    ∷ (map (λ main. lowerCall 2 main 9 (lending (nextRow (NextMain 5)) (2 ∷ []) 2) .number) (4 ∷ 5 ∷ 6 ∷ []) ++ map (λ aux. lowerCall 2 9 aux (lending (nextRow (NextAux 5)) (2 ∷ []) 2) .number) (4 ∷ 5 ∷ 6 ∷ []), 9 ∷ 9 ∷ 0 ∷ 9 ∷ 9 ∷ 0 ∷ [])
+    -- where nothing has to be lowered, no column is looked at
+    ∷ (lowerCall 4 0 0 (lending (nextRow (NextMain 5)) (2 ∷ []) 2) .number ∷ [], 0 ∷ [])
     ∷ (map (λ main. lowerCall 2 main 0 (lending (x⁴ 6) (2 ∷ []) 2) .number) (65534 ∷ 65535 ∷ []) ++ map (λ aux. lowerCall 2 1 aux (lending (x⁴ 6) (2 ∷ []) 2) .number) (65534 ∷ 65535 ∷ []), 0 ∷ 9 ∷ 0 ∷ 9 ∷ [])
     -- occurrences are counted from each high node, by paths: x² is a root too, and x³ is chosen, as often below x⁶ and of higher degree
     ∷ (best (candidates 3 x⁶ (1 ∷ 3 ∷ [])) ∷ shown (lowerCall 3 1 0 (lending x⁶ (1 ∷ 3 ∷ []) 4)), 2 ∷ 0 ∷ 1 ∷ 0 ∷ 8 ∷ 1 ∷ 3 ∷ 7 ∷ 9 ∷ 9 ∷ 9 ∷ 9 ∷ 9 ∷ 9 ∷ 9 ∷ [])
@@ -84,5 +92,5 @@ table =
     ∷ []
 
 pub examples : T (agree table)
-unfolding lowerComputes lending shown x⁴ x⁶ x²a² table
+unfolding lowerComputes lending shown x⁴ nextRow x⁶ x²a² table
 examples = tt
