@@ -50,7 +50,7 @@ column-bound {mc = mc} {ac = ac} x x₁ one f = go (one .added)
     go (to-aux e a b) = rw e (omega (arith, f .aux, length-more (x .aux) (x₁ .aux) (one .q) b))
 
 -- one node of a shape
-unique-shape : (m : List ℕ) → Unique m → (t : Shape) (i j : ℕ) → registered m i ≡ true → registered m j ≡ true → Unf (look m) t i → Unf (look m) t j → i ≡ j
+pub unique-shape : (m : List ℕ) → Unique m → (t : Shape) (i j : ℕ) → registered m i ≡ true → registered m j ≡ true → Unf (look m) t i → Unf (look m) t j → i ≡ j
 unique-shape m v t i j p q a b = unique-one m v i j (has-used m t i a) (has-used m t j b) p q (shape-is m t i a ∙ sym (shape-is m t j b))
 
 module _ (T mc ac : ℕ) (two : 2 ≤ T) where
@@ -84,7 +84,7 @@ pub record Stands (mc ac : ℕ) (x : Lowering) : Type 0 where
   pub aux : (k : ℕ) → k < length (x .aux) → Less (x .circuit) (Aux (ac + k)) (getD (x .aux) k 0)
 
 -- a list with one more at its end
-one-longer : (P : ℕ → ℕ → Type 0) (xs ys : List ℕ) (q : ℕ) → ys ≡ xs ++ (q ∷ []) → ((k : ℕ) → k < length xs → P k (getD xs k 0)) → P (length xs) q → (k : ℕ) → k < length ys → P k (getD ys k 0)
+pub one-longer : (P : ℕ → ℕ → Type 0) (xs ys : List ℕ) (q : ℕ) → ys ≡ xs ++ (q ∷ []) → ((k : ℕ) → k < length xs → P k (getD xs k 0)) → P (length xs) q → (k : ℕ) → k < length ys → P k (getD ys k 0)
 one-longer P xs ys q e old new k l = go (decLt k (length xs))
   where
     go : Dec (k < length xs) → P k (getD ys k 0)

@@ -13,8 +13,10 @@ use Rattle.lowering.proofs.Unread.{unread}
 use Rattle.lower.specs.Told.{toldLowering}
 use Rattle.grown.specs.Grown.{Grown}
 use Rattle.grown.specs.Promise.{Promise}
+use Rattle.grown.specs.Order.{LeftToRight}
 use Rattle.grown.specs.Evaluated.{Wide, OneFill}
 use Rattle.grown.proofs.Promised.{promised}
+use Rattle.grown.proofs.Ordered.{left-to-right}
 use Rattle.grown.proofs.Filled.{filled}
 
 -- k main and l auxiliary constraints were answered, and x is what is lent afterwards: the lists are its first k and l places
@@ -31,6 +33,10 @@ module _ (target mainCount auxCount : ℕ) (lent : Lowering) (k l : ℕ) (x : Lo
   -- the new columns are new in both rows
   pub lower-unread : Unread mainCount auxCount (lent .circuit) after
   lower-unread = subst (λ (o : Outcome (ℕ × ℕ) Lowering). Unread mainCount auxCount (lent .circuit) (returned o)) (sym contract) (unread target mainCount auxCount lent is-accepted)
+
+  -- the lists are left to right
+  pub lower-orders : Grown (lent .circuit) → LeftToRight target mainCount auxCount (lent .circuit) (lent .roots) after
+  lower-orders g = subst (λ (o : Outcome (ℕ × ℕ) Lowering). LeftToRight target mainCount auxCount (lent .circuit) (lent .roots) (returned o)) (sym contract) (left-to-right target mainCount auxCount lent g is-accepted)
 
   pub lower-fills : (main aux challenges : List ℕ) → Wide (x .circuit) main aux challenges → OneFill mainCount auxCount (lent .circuit) (lent .roots) after main aux challenges
   lower-fills =

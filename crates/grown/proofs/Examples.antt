@@ -75,11 +75,11 @@ x-a-grown : Grown x-a
 unfolding lowerComputes
 x-a-grown = grown.input (inputCall (startCall (replicate 86 0) Single .lent) (Main 0) .lent) (grown.input (startCall (replicate 86 0) Single .lent) (grown.started (replicate 86 0) Single refl) (Main 0) refl) (Aux 0) refl
 
-x²a²-grown : Grown (x²a² .circuit)
+pub x²a²-grown : Grown (x²a² .circuit)
 unfolding lowerComputes
 x²a²-grown = grown.operation squares (grown.operation (operationCall x-a Multiply 0 0 .lent) (grown.operation x-a x-a-grown Multiply 0 0 refl) Multiply 1 1 refl) Multiply 2 3 refl
 
-x²a²-accepted : lowerCall 2 1 1 x²a² .number ≡ 0
+pub x²a²-accepted : lowerCall 2 1 1 x²a² .number ≡ 0
 unfolding lowerComputes
 x²a²-accepted = refl
 

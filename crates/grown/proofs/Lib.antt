@@ -7,6 +7,16 @@ pub mod Substituted
 pub mod Differences
 pub mod Advances
 pub mod Lowers
+pub mod Passing
+pub mod Occurs
+pub mod Quiet
+pub mod Stays
+pub mod Twins
+pub mod Expressions
+pub mod Keeps
+pub mod Ordered
+pub mod Later
+pub mod Depends
 pub mod Counted
 pub mod Grows
 pub mod Choices
@@ -19,5 +29,6 @@ pub mod Meant
 pub mod Filled
 pub mod Called
 pub mod Examples
+pub mod InOrder
 pub mod Outcomes
 pub mod Refusals

@@ -3,6 +3,7 @@ pub mod Results
 pub mod Grown
 pub mod Invariants
 pub mod Promise
+pub mod Order
 pub mod Evaluated
 pub mod Outcomes
 pub mod Examples

@@ -34,7 +34,7 @@ use Rattle.lowering.proofs.OneMore.{State, OneMore, state-after}
 use Rattle.lower.proofs.Selects.{keep-more}
 
 -- the new input's walk is the input itself
-leaf-walk : (c : Look) (t : Tree) (n z : ℕ) (y : Position) → Tru c t n → c n ≡ some (leafE (inputLeaf y)) → z ≢ n → count z (walk t) ≡ 0
+pub leaf-walk : (c : Look) (t : Tree) (n z : ℕ) (y : Position) → Tru c t n → c n ≡ some (leafE (inputLeaf y)) → z ≢ n → count z (walk t) ≡ 0
 unfolding walk count
 leaf-walk c (leaf j a) n z y (e, p) q h = rw (ne-eqb z j (λ k. h (k ∙ e)))
 leaf-walk c (branch j o a b) n z y (e, l, r, p, v, w) q h = absurd (let x : _≡_ {A = ℕ} 0 1 = cc in omega arith)
@@ -77,7 +77,7 @@ paths-fall m m₁ p p₁ z (i ∷ xs) h = go (p₁ i) (p i) refl refl (paths-fal
     go false false e f rest = rest
 
 -- nothing is kept beyond n
-keep-short : (p : ℕ → Bool) (n k : ℕ) → ((i : ℕ) → n ≤ i → p i ≡ false) → keep p (upTo (n + k)) ≡ keep p (upTo n)
+pub keep-short : (p : ℕ → Bool) (n k : ℕ) → ((i : ℕ) → n ≤ i → p i ≡ false) → keep p (upTo (n + k)) ≡ keep p (upTo n)
 keep-short p n zero h = rw add-zero
 keep-short p n (suc k) h = rw (add-suc, keep-more p (n + k), h (n + k) (omega arith)) (append-nothing (keep p (upTo (n + k))) ∙ keep-short p n k h)
   where
@@ -127,14 +127,14 @@ module _ (T mc ac : ℕ) (two : 2 ≤ T) (x x₁ : Lowering) (state : State mc a
   has-tree : (i : ℕ) → Below (look m) (x .roots) i → i < used m
   has-tree i b = let (t, w) = below-tree (state .rooted) i b in let (e, p) = unf-some (look m) t i w in look-lt m i e p
 
-  from-falls : (i z : ℕ) → Below (look m) (x .roots) i → z ≢ one .n → from m₁ i z ≤ from m i z
+  pub from-falls : (i z : ℕ) → Below (look m) (x .roots) i → z ≢ one .n → from m₁ i z ≤ from m i z
   from-falls i z b h =
       let (t, w) = below-tree (state .rooted) i b in
       let (t′, w′, g) = tree-after move t i w in
       walk-falls move (tree m i) (tree m₁ i) i z (tree-of m t i w) (tree-of m₁ t′ i w′) h
 
   -- no node but the new input occurs more often
-  occurrences-fall : (z : ℕ) → z ≢ one .n → paths m₁ (belowAbove T m₁ (x₁ .roots)) z ≤ paths m (belowAbove T m (x .roots)) z
+  pub occurrences-fall : (z : ℕ) → z ≢ one .n → paths m₁ (belowAbove T m₁ (x₁ .roots)) z ≤ paths m (belowAbove T m (x .roots)) z
   unfolding belowAbove
   occurrences-fall z h =
       let grows = one .grows in

@@ -63,7 +63,7 @@ walk-below c rs (branch j o x y) r (e, l, k, p, v, w) b i h =
     go f g (inr (inl q)) = let k : i ≡ r = q ∙ e in rw k b
     go f g (inr (inr q)) = g q
 
-walk-top : (c : Look) (t : Tree) (r : ℕ) → Tru c t r → In r (walk t)
+pub walk-top : (c : Look) (t : Tree) (r : ℕ) → Tru c t r → In r (walk t)
 unfolding walk
 walk-top c (leaf j a) r (e, p) = inl (sym e)
 walk-top c (branch j o x y) r (e, l, k, p, v, w) = in-right r (walk x) (j ∷ walk y) (inl (sym e))
@@ -88,13 +88,13 @@ walk-down c (branch i o′ x y) r (e, l′, k′, p, v, w) j o l k h q =
         (in-left l (walk x) (i ∷ walk y) (rw el at a), in-right k (walk x) (i ∷ walk y) (inr (rw ek at b)))
     go f g (inr (inr z)) = let (a, b) = g z in (in-right l (walk x) (i ∷ walk y) (inr a), in-right k (walk x) (i ∷ walk y) (inr b))
 
-below-walk : (c : Look) (t : Tree) (r : ℕ) → Tru c t r → (i : ℕ) → Below c (r ∷ []) i → In i (walk t)
+pub below-walk : (c : Look) (t : Tree) (r : ℕ) → Tru c t r → (i : ℕ) → Below c (r ∷ []) i → In i (walk t)
 below-walk c t r h i (root (inl e)) = rw e (walk-top c t r h)
 below-walk c t r h i (root (inr e)) = absurd e
 below-walk c t r h i (left {o = o} {i = j} {l = l} {r = k} b p) = (walk-down c t r h j o l k (below-walk c t r h j b) p) .0
 below-walk c t r h i (right {o = o} {i = j} {l = l} {r = k} b p) = (walk-down c t r h j o l k (below-walk c t r h j b) p) .1
 
-below-one : (c : Look) (rs : List ℕ) (i : ℕ) → Below c rs i → (r : ℕ) × In r rs × Below c (r ∷ []) i
+pub below-one : (c : Look) (rs : List ℕ) (i : ℕ) → Below c rs i → (r : ℕ) × In r rs × Below c (r ∷ []) i
 below-one c rs i (root h) = (i, h, root (inl refl))
 below-one c rs i (left {i = j} b p) = let (r, h, k) = below-one c rs j b in (r, h, left k p)
 below-one c rs i (right {i = j} b p) = let (r, h, k) = below-one c rs j b in (r, h, right k p)
@@ -271,6 +271,16 @@ module _ (T : ℕ) (two : 2 ≤ T) (m : List ℕ) (rs : List ℕ) (rooted : Root
   -- the node chosen has at least one occurrence
   pub chosen-occurs : 0 < paths m (belowAbove T m rs) (best (candidates T m rs))
   chosen-occurs = let (j, b) = best-is in rw (b .is) (b .occurs)
+
+  -- and no node of fit degree has more
+  pub chosen-most : (i : ℕ) → i < used m → 3 ≤ degree⁺ (tree m i) → degree⁺ (tree m i) ≤ suc T → paths m (belowAbove T m rs) i ≤ paths m (belowAbove T m rs) (best (candidates T m rs))
+  unfolding one fits
+  chosen-most i l low top =
+      let ok : fits i ≡ true = and-both (above 1 m i) (not (above T m i)) (above-yes 1 m i (omega arith)) (ap not (above-no T m i (omega arith))) in
+      let k : In i (keep fits (upTo (used m))) = keep-in fits (upTo (used m)) i (upTo-in (used m) i l) ok in
+      let (c, d, e, f) = best-in (candidates T m rs) (one i) (rw candidates-are (map-into one i (keep fits (upTo (used m))) k)) in
+      let (j, g, q) = map-from one c (keep fits (upTo (used m))) (subst (λ (l : List Candidate). In c l) candidates-are d) in
+      rw (e ∙ ap (λ (x : Candidate). x .id) q) (omega (arith, f, ap (λ (x : Candidate). x .occurrences) q))
 
   -- the best candidate may be chosen
   pub best-choice : (u : Shape) × Choice T (look m) rs (best (candidates T m rs)) u

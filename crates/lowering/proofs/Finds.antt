@@ -17,7 +17,7 @@ use Rattle.layout.specs.declared.node.Op.the-variants.{Add, Multiply}
 use Rattle.layout.specs.declared.node.Expression.{Expression}
 use Rattle.layout.specs.declared.node.Expression.the-variants.{Base, Extension, Challenge, Operation, Input}
 use Rattle.layout.specs.declared.node.Node.{Node}
-use Rattle.layout.specs.Words.{used, decode, registered, opKind, encode, made}
+use Rattle.layout.specs.Words.{used, decode, nodeAt, registered, opKind, encode, made}
 use Rattle.layout.specs.Tree.{Leaf, baseLeaf, extensionLeaf, challengeLeaf, inputLeaf, Tree, leaf, branch, tree, treeOf, plain, same}
 use Rattle.building.specs.Building.{Built, built, find, orElse, findOrMake, eitherOrder}
 use Rattle.lowering.proofs.Shape.{Expr, leafE, opE, exprOf, Shape, lf, op, shape, Look, Unf}
@@ -122,6 +122,7 @@ pub record Grew (m m′ : List ℕ) : Type 0 where
   pub sound : Sound m′
   pub ext : (i : ℕ) (e : Expr) → look m i ≡ some e → look m′ i ≡ some e
   pub marks : (i : ℕ) → i < used m → registered m′ i ≡ registered m i
+  pub counts : (i : ℕ) → i < used m → nodeAt m′ i .references ≡ nodeAt m i .references
   pub more : used m ≤ used m′
   pub inputs : (i : ℕ) (q : Position) → look m′ i ≡ some (leafE (inputLeaf q)) → look m i ≡ some (leafE (inputLeaf q))
   -- what fits into the lent words takes no more
@@ -130,7 +131,7 @@ pub record Grew (m m′ : List ℕ) : Type 0 where
   pub row : getD m′ 0 0 ≡ getD m 0 0
 
 pub grew-self : (m : List ℕ) → Sound m → Grew m m
-grew-self m s = record { sound = s; ext = λ i e h. h; marks = λ i h. refl; more = omega arith; inputs = λ i q h. h; in-place = λ h. refl; proper = λ h. h; row = refl }
+grew-self m s = record { sound = s; ext = λ i e h. h; marks = λ i h. refl; counts = λ i h. refl; more = omega arith; inputs = λ i q h. h; in-place = λ h. refl; proper = λ h. h; row = refl }
 
 pub grew-more : (a b c : List ℕ) → Grew a b → Grew b c → Grew a c
 grew-more a b c g h =
@@ -138,6 +139,7 @@ grew-more a b c g h =
       sound = h .sound;
       ext = λ i e p. h .ext i e (g .ext i e p);
       marks = λ i p. h .marks i (omega (arith, g .more)) ∙ g .marks i p;
+      counts = λ i p. h .counts i (omega (arith, g .more)) ∙ g .counts i p;
       more = omega (arith, g .more, h .more);
       inputs = λ i q p. g .inputs i q (h .inputs i q p);
       in-place = λ p.
@@ -191,6 +193,7 @@ made-grew m s e r n good =
       sound = made-sound m s e r;
       ext = made-ext m s e;
       marks = λ i h. ap (λ (x : Node). x .registered) (made-old m e (s .room) i h);
+      counts = λ i h. ap (λ (x : Node). x .references) (made-old m e (s .room) i h);
       more = omega (arith, made-used m e (s .room));
       inputs = λ i q h. ⊎-elim (λ k. k) (λ k. absurd (n q (sym (k .1)))) (look-made-back m e (s .room) i (leafE (inputLeaf q)) h);
       in-place = λ h. made-length m e (s .room) (omega (arith, made-used m e (s .room)));

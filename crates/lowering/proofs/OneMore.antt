@@ -9,7 +9,7 @@ use native.Mathlib.Omega.{arith}
 use lib.ListN.{length, getD, length-append}
 use Rattle.layout.specs.declared.node.Position.{Position}
 use Rattle.layout.specs.declared.node.Position.the-variants.{Main, Aux, NextMain, NextAux}
-use Rattle.layout.specs.Words.{used, registered, column, isMain}
+use Rattle.layout.specs.Words.{used, nodeAt, registered, column, isMain}
 use Rattle.layout.specs.Tree.{inputLeaf, tree}
 use Rattle.reading.specs.Readings.{isBase}
 use Rattle.lowering.specs.Lowering.{renamed, Lowering, tooHigh, candidates, best, substituted}
@@ -19,7 +19,7 @@ use Rattle.lowering.proofs.Count.{rooted-after, regs-after}
 use Rattle.lowering.proofs.Words.{look, Sound, shape-is}
 use Rattle.lowering.proofs.Redirects.{renamed-is}
 use Rattle.lowering.proofs.Constraints.{HasMinus}
-use Rattle.lowering.proofs.Substitutes.{base-shape, three, three-sound, stepped, inputs-after, substituted-is, nodes-grow, three-proper, four-more, three-more, has-minus, lies-in, loose-after, twin, row-after}
+use Rattle.lowering.proofs.Substitutes.{base-shape, three, three-sound, stepped, inputs-after, substituted-is, nodes-grow, three-proper, four-more, three-more, has-minus, lies-in, loose-after, count-after, twin, row-after}
 use Rattle.lowering.proofs.Proper.{Proper}
 use Rattle.lowering.proofs.Chooses.{best-choice}
 
@@ -30,7 +30,7 @@ Taken a b (Aux c) = c < b
 Taken a b (NextMain c) = c < a
 Taken a b (NextAux c) = c < b
 
-taken-more : (a b a′ b′ : ℕ) → a ≤ a′ → b ≤ b′ → (q : Position) → Taken a b q → Taken a′ b′ q
+pub taken-more : (a b a′ b′ : ℕ) → a ≤ a′ → b ≤ b′ → (q : Position) → Taken a b q → Taken a′ b′ q
 taken-more a b a′ b′ h k (Main c) t = omega arith
 taken-more a b a′ b′ h k (Aux c) t = omega arith
 taken-more a b a′ b′ h k (NextMain c) t = omega arith
@@ -55,6 +55,7 @@ pub record OneMore (T mc ac : ℕ) (x x₁ : Lowering) : Type 0 where
   pub y : Position
   pub u : Shape
   pub choice : Choice T (look (x .circuit)) (x .roots) s u
+  pub chosen : s ≡ best (candidates T (x .circuit) (x .roots))
   pub st : Stepped (look (x .circuit)) (look (x₁ .circuit)) (λ i. registered (x .circuit) i) (λ i. registered (x₁ .circuit) i) s n y q u
   pub to : x₁ .roots ≡ map (redirId s n) (x .roots)
   pub sound : Sound (x₁ .circuit)
@@ -67,6 +68,7 @@ pub record OneMore (T mc ac : ℕ) (x x₁ : Lowering) : Type 0 where
   pub lies-in : 2 + 6 * used (x₁ .circuit) ≤ length (x .circuit) → length (x₁ .circuit) ≡ length (x .circuit)
   pub proper : column y ≤ 65535 → Proper (x .circuit) → Proper (x₁ .circuit)
   pub loose : (i : ℕ) → i < used (x .circuit) → registered (x .circuit) i ≡ false → registered (x₁ .circuit) i ≡ false
+  pub counts : (i : ℕ) → i < used (x .circuit) → nodeAt (x₁ .circuit) i .references ≡ nodeAt (x .circuit) i .references
   pub twin : (i : ℕ) → registered (x₁ .circuit) i ≡ true → Unf (look (x₁ .circuit)) u i → (i ≢ s) × (registered (x .circuit) i ≡ true) × Unf (look (x .circuit)) u i
   pub row : getD (x₁ .circuit) 0 0 ≡ getD (x .circuit) 0 0
 
@@ -82,10 +84,10 @@ module _ (T mc ac : ℕ) (two : 2 ≤ T) where
   pub one-more : (x : Lowering) → State mc ac x → tooHigh T (x .circuit) (x .roots) ≡ true → OneMore T mc ac x (substituted mc ac x (best (candidates T (x .circuit) (x .roots))))
   one-more x state high =
       let (u, ch) = best-choice T two (x .circuit) (x .roots) (state .rooted) high in
-      go (best (candidates T (x .circuit) (x .roots))) u ch (isBase (tree (x .circuit) (best (candidates T (x .circuit) (x .roots))))) refl
+      go (best (candidates T (x .circuit) (x .roots))) refl u ch (isBase (tree (x .circuit) (best (candidates T (x .circuit) (x .roots))))) refl
     where
-      go : (s : ℕ) (u : Shape) → Choice T (look (x .circuit)) (x .roots) s u → (b : Bool) → isBase (tree (x .circuit) s) ≡ b → OneMore T mc ac x (substituted mc ac x s)
-      go s u ch true e =
+      go : (s : ℕ) → s ≡ best (candidates T (x .circuit) (x .roots)) → (u : Shape) → Choice T (look (x .circuit)) (x .roots) s u → (b : Bool) → isBase (tree (x .circuit) s) ≡ b → OneMore T mc ac x (substituted mc ac x s)
+      go s z u ch true e =
           let m : List ℕ = x .circuit in
           let y : Position = Main (mc + length (x .main)) in
           let fresh : (i : ℕ) → look (x .circuit) i ≢ some (leafE (inputLeaf (Main (mc + length (x .main))))) = λ i h. omega (arith, state .columns i (Main (mc + length (x .main))) h) in
@@ -98,6 +100,7 @@ module _ (T mc ac : ℕ) (two : 2 ≤ T) where
             y = y;
             u = u;
             choice = ch;
+            chosen = z;
             st = stepped m (state .sound) s u (ch .low) (ch .tree) y fresh kind;
             to = renamed-all s (used m) (x .roots);
             sound = three-sound m (state .sound) s u (ch .low) (ch .tree) y fresh kind;
@@ -108,12 +111,13 @@ module _ (T mc ac : ℕ) (two : 2 ≤ T) where
             has-minus = has-minus m (state .sound) s u (ch .low) (ch .tree) y fresh kind;
             grows = nodes-grow m (state .sound) s u (ch .low) (ch .tree) y fresh kind;
             lies-in = lies-in m (state .sound) s u (ch .low) (ch .tree) y fresh kind;
-            proper = λ z. three-proper m (state .sound) s u (ch .low) (ch .tree) y fresh kind z refl;
+            proper = λ w. three-proper m (state .sound) s u (ch .low) (ch .tree) y fresh kind w refl;
             loose = loose-after m (state .sound) s u (ch .low) (ch .tree) y fresh kind;
+            counts = count-after m (state .sound) s u (ch .low) (ch .tree) y fresh kind;
             twin = twin m (state .sound) s u (ch .low) (ch .tree) y fresh kind;
             row = row-after m (state .sound) s u (ch .low) (ch .tree) y fresh kind;
           })
-      go s u ch false e =
+      go s z u ch false e =
           let m : List ℕ = x .circuit in
           let y : Position = Aux (ac + length (x .aux)) in
           let fresh : (i : ℕ) → look (x .circuit) i ≢ some (leafE (inputLeaf (Aux (ac + length (x .aux))))) = λ i h. omega (arith, state .columns i (Aux (ac + length (x .aux))) h) in
@@ -126,6 +130,7 @@ module _ (T mc ac : ℕ) (two : 2 ≤ T) where
             y = y;
             u = u;
             choice = ch;
+            chosen = z;
             st = stepped m (state .sound) s u (ch .low) (ch .tree) y fresh kind;
             to = renamed-all s (used m) (x .roots);
             sound = three-sound m (state .sound) s u (ch .low) (ch .tree) y fresh kind;
@@ -136,8 +141,9 @@ module _ (T mc ac : ℕ) (two : 2 ≤ T) where
             has-minus = has-minus m (state .sound) s u (ch .low) (ch .tree) y fresh kind;
             grows = nodes-grow m (state .sound) s u (ch .low) (ch .tree) y fresh kind;
             lies-in = lies-in m (state .sound) s u (ch .low) (ch .tree) y fresh kind;
-            proper = λ z. three-proper m (state .sound) s u (ch .low) (ch .tree) y fresh kind z refl;
+            proper = λ w. three-proper m (state .sound) s u (ch .low) (ch .tree) y fresh kind w refl;
             loose = loose-after m (state .sound) s u (ch .low) (ch .tree) y fresh kind;
+            counts = count-after m (state .sound) s u (ch .low) (ch .tree) y fresh kind;
             twin = twin m (state .sound) s u (ch .low) (ch .tree) y fresh kind;
             row = row-after m (state .sound) s u (ch .low) (ch .tree) y fresh kind;
           })

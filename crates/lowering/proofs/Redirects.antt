@@ -230,6 +230,10 @@ module _ (s n : ℕ) (m : List ℕ) (room : 2 + 6 * used m ≤ length m) (hs : s
   part-mark-word zero i = ap (λ (l : List ℕ). word l i 4) part-zero
   part-mark-word (suc k) i = ap (λ (l : List ℕ). word l i 4) (part-suc k) ∙ rename-word s n (part k) k (offset i + 4) (λ h. omega arith) (λ h. omega arith) ∙ part-mark-word k i
 
+  part-count : (k i : ℕ) → word (part k) i 5 ≡ word m i 5
+  part-count zero i = ap (λ (l : List ℕ). word l i 5) part-zero ∙ cut-word (offset i + 5) (λ e. omega arith)
+  part-count (suc k) i = ap (λ (l : List ℕ). word l i 5) (part-suc k) ∙ rename-word s n (part k) k (offset i + 5) (λ h. omega arith) (λ h. omega arith) ∙ part-count k i
+
   cut-mark-word : (i : ℕ) → word m i 4 ≤ 1 → word cut i 4 ≤ 1
   unfolding cut
   cut-mark-word i h = go (ℕ-discrete i s)
@@ -256,6 +260,10 @@ module _ (s n : ℕ) (m : List ℕ) (room : 2 + 6 * used m ≤ length m) (hs : s
 
   pub redirected-kind : (i : ℕ) → word (redirected m s n) i 0 ≡ word m i 0
   redirected-kind i = ap (λ (l : List ℕ). word l i 0) all-parts ∙ part-kind (used m) i
+
+  pub redirected-count : (i : ℕ) → nodeAt (redirected m s n) i .references ≡ nodeAt m i .references
+  unfolding nodeAt
+  redirected-count i = ap (λ (l : List ℕ). word l i 5) all-parts ∙ part-count (used m) i
 
   pub redirected-mark-word : (i : ℕ) → word m i 4 ≤ 1 → word (redirected m s n) i 4 ≤ 1
   redirected-mark-word i h = rw (all-parts, part-mark-word (used m) i) (cut-mark-word i h)

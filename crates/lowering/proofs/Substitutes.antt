@@ -15,7 +15,7 @@ use Rattle.layout.specs.declared.node.Position.{Position}
 use Rattle.layout.specs.declared.node.Position.the-variants.{Main, Aux}
 use Rattle.layout.specs.declared.node.Expression.the-variants.{Input}
 use Rattle.layout.specs.declared.node.Node.{Node}
-use Rattle.layout.specs.Words.{used, registered, column, made, isMain, isNext}
+use Rattle.layout.specs.Words.{used, nodeAt, registered, column, made, isMain, isNext}
 use Rattle.layout.specs.Tree.{baseLeaf, inputLeaf, Tree, leaf, branch, tree}
 use Rattle.building.specs.Building.{Built, built, find, orElse, findOrMake, subtracted}
 use Rattle.reading.specs.Readings.{isBase}
@@ -28,7 +28,7 @@ use Rattle.lowering.proofs.Count.{unf-some}
 use Rattle.lowering.proofs.Words.{look, look-lt, Sound}
 use Rattle.lowering.proofs.Proper.{Proper, made-proper, redirected-proper}
 use Rattle.lowering.proofs.Made.{made-row, made-used, made-length, made-old, made-mark, look-made-old, look-made-new, look-made-back}
-use Rattle.lowering.proofs.Redirects.{redirected-used, redirected-room, redirected-row, redirected-length, redirected-loose, redirected-mark, redirected-kept, redirected-turned, redirected-leaf}
+use Rattle.lowering.proofs.Redirects.{redirected-used, redirected-room, redirected-row, redirected-length, redirected-loose, redirected-count, redirected-mark, redirected-kept, redirected-turned, redirected-leaf}
 use Rattle.lowering.proofs.Finds.{found, Grew, unf-back, made-sound}
 use Rattle.lowering.proofs.Constraints.{Difference, HasMinus, operation-at, subtracted-got}
 
@@ -182,6 +182,11 @@ module _ (m : List ℕ) (sound : Sound m) (s : ℕ) (u : Shape) (large : 3 ≤ d
       go : Dec (i ≡ s) → registered (three .circuit) i ≡ false
       go (yes e) = grew-three .marks i (omega (arith, two-used)) ∙ ap (λ (j : ℕ). registered two j) e ∙ two-loose
       go (no e) = grew-three .marks i (omega (arith, two-used)) ∙ two-mark i e ∙ one-mark i h ∙ g
+
+  -- the counts stay
+  pub count-after : (i : ℕ) → i < used m → nodeAt (three .circuit) i .references ≡ nodeAt m i .references
+  unfolding two one
+  count-after i h = grew-three .counts i (omega (arith, two-used)) ∙ redirected-count s (used m) one (one-sound .room) s-used i ∙ ap (λ (x : Node). x .references) (made-old m (Input y) (sound .room) i h)
 
   -- a registered node of the chosen one's shape is another node that was registered and had that shape
   pub twin : (i : ℕ) → registered (three .circuit) i ≡ true → Unf (look (three .circuit)) u i → (i ≢ s) × (registered m i ≡ true) × Unf (look m) u i
