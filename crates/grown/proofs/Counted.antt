@@ -50,7 +50,7 @@ module _ (m m′ : List ℕ) (r : Recounted m m′) where
   same-word : (i k : ℕ) → k < 5 → word m′ i k ≡ word m i k
   same-word i k l = r .words (offset i + k) (λ j e. omega arith)
 
-  same-expression : (i : ℕ) → expressionAt m′ i ≡ expressionAt m i
+  pub same-expression : (i : ℕ) → expressionAt m′ i ≡ expressionAt m i
   unfolding nodeAt
   same-expression i = rw (same-word i 0 (omega arith), same-word i 1 (omega arith), same-word i 2 (omega arith), same-word i 3 (omega arith))
 

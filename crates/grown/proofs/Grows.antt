@@ -50,7 +50,7 @@ pub record Good (m : List ℕ) : Type 0 where
   pub unique : Unique m
 
 -- an accepted call has passed its tests, and leaves what it says it leaves
-passed : {A L : Type 0} (tests : List (ℕ × Bool)) (values : A) (after : L) (zeros : A) (lent : L) → outcome tests values after zeros lent .number ≡ 0 → (refusal tests ≡ 0) × (outcome tests values after zeros lent .lent ≡ after)
+pub passed : {A L : Type 0} (tests : List (ℕ × Bool)) (values : A) (after : L) (zeros : A) (lent : L) → outcome tests values after zeros lent .number ≡ 0 → (refusal tests ≡ 0) × (outcome tests values after zeros lent .lent ≡ after)
 unfolding outcome
 passed tests values after zeros lent h =
     let r : refusal tests ≡ 0 = sym (number-is (refusal tests) values after zeros lent) ∙ h in
@@ -78,21 +78,21 @@ start-good m kind h =
 
 -- building
 
-building-passed : (m : List ℕ) (tests : List (ℕ × Bool)) (b : Built) → building m tests b .number ≡ 0 → (refusal (((1, notCircuit m) ∷ tests) ++ ((6, full m b) ∷ [])) ≡ 0) × (building m tests b .lent ≡ b .circuit)
+pub building-passed : (m : List ℕ) (tests : List (ℕ × Bool)) (b : Built) → building m tests b .number ≡ 0 → (refusal (((1, notCircuit m) ∷ tests) ++ ((6, full m b) ∷ [])) ≡ 0) × (building m tests b .lent ≡ b .circuit)
 unfolding building
 building-passed m tests b = passed (((1, notCircuit m) ∷ tests) ++ ((6, full m b) ∷ [])) (b .id) (b .circuit) 0 m
 
 builds-good : (m : List ℕ) (b : Built) → Builds m b → Unique m → Good (b .circuit)
 builds-good m b h v = record { circuit = h .circuit; unique = h .unique v }
 
-words-canonical : (x : Triple) → badWords x ≡ false → Canonical x
+pub words-canonical : (x : Triple) → badWords x ≡ false → Canonical x
 unfolding badWords
 words-canonical x h =
     let (a, b) = neither (leb p (x .c0)) (leb p (x .c1) || leb p (x .c2)) h in
     let (c, d) = neither (leb p (x .c1)) (leb p (x .c2)) b in
     record { below0 = leb-false p (x .c0) a; below1 = leb-false p (x .c1) c; below2 = leb-false p (x .c2) d }
 
-one-below : (m : List ℕ) (i : ℕ) (ids : List ℕ) → badId m (i ∷ ids) ≡ false → (i < used m) × (badId m ids ≡ false)
+pub one-below : (m : List ℕ) (i : ℕ) (ids : List ℕ) → badId m (i ∷ ids) ≡ false → (i < used m) × (badId m ids ≡ false)
 unfolding badId any
 one-below m i ids h = let (a, b) = neither (leb (used m) i) (any (leb (used m)) ids) h in (leb-false (used m) i a, b)
 

@@ -32,3 +32,6 @@ pub mod Examples
 pub mod InOrder
 pub mod Outcomes
 pub mod Refusals
+pub mod Since
+pub mod Lowered
+pub mod Latest

@@ -117,7 +117,7 @@ triples-in P (a ∷ b ∷ c ∷ ws) h x (inr k) = triples-in P ws (λ w z. h w (
 same-triple : {a b c a′ b′ c′ : ℕ} → a ≡ a′ → b ≡ b′ → c ≡ c′ → triple a b c ≡ triple a′ b′ c′
 same-triple p q r = λ t. record { c0 = p t; c1 = q t; c2 = r t }
 
-triples-at : (l : ℕ) (ws : List ℕ) → length ws ≡ 3 * l → (i : ℕ) (d : Triple) → i < l → getD (triples ws) i d ≡ tripleAt ws i
+pub triples-at : (l : ℕ) (ws : List ℕ) → length ws ≡ 3 * l → (i : ℕ) (d : Triple) → i < l → getD (triples ws) i d ≡ tripleAt ws i
 unfolding tripleAt
 triples-at zero ws e i d h = absurd (omega arith)
 triples-at (suc l) [] e i d h = absurd (omega arith)

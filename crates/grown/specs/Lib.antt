@@ -5,6 +5,7 @@ pub mod Invariants
 pub mod Promise
 pub mod Order
 pub mod Evaluated
+pub mod Fills
 pub mod Outcomes
 pub mod Examples
 pub mod Refusals
