@@ -18,24 +18,24 @@ use Rattle.grown.specs.Order.{Unaltered, first, LeftToRight}
 
 module _ (T mc ac : ℕ) (m roots : List ℕ) (after : Lowering) (ordered : LeftToRight T mc ac m roots after) where
   -- no node at or below e reads the column at q
-  abbrev Unread : ℕ → Position → Type 0
-  Unread e q = (i : ℕ) → In i (walk (tree (after .circuit) e)) → expressionAt (after .circuit) i ≢ Input q
+  abbrev NotRead : ℕ → Position → Type 0
+  NotRead e q = (i : ℕ) → In i (walk (tree (after .circuit) e)) → expressionAt (after .circuit) i ≢ Input q
 
   module _ (k : ℕ) (here : k < length (after .main)) (d : Difference (after .circuit) (Main (mc + k)) (getD (after .main) k 0)) (c : ℕ) where
-    pub main-reads-no-later : mc + k ≤ c → Unread (d .chosen) (Main c)
+    pub main-reads-no-later : mc + k ≤ c → NotRead (d .chosen) (Main c)
     main-reads-no-later h i z e = omega (arith, ordered .main k here d .0 .main i c z e)
 
-    pub main-reads-no-aux : ac ≤ c → Unread (d .chosen) (Aux c)
+    pub main-reads-no-aux : ac ≤ c → NotRead (d .chosen) (Aux c)
     main-reads-no-aux h i z e = omega (arith, ordered .main k here d .0 .aux i c z e)
 
-    pub main-reads-no-next : mc ≤ c → Unread (d .chosen) (NextMain c)
+    pub main-reads-no-next : mc ≤ c → NotRead (d .chosen) (NextMain c)
     main-reads-no-next h i z e = omega (arith, ordered .main k here d .0 .nextMain i c z e)
 
   module _ (k : ℕ) (here : k < length (after .aux)) (d : Difference (after .circuit) (Aux (ac + k)) (getD (after .aux) k 0)) (c : ℕ) where
-    pub aux-reads-no-later : ac + k ≤ c → Unread (d .chosen) (Aux c)
+    pub aux-reads-no-later : ac + k ≤ c → NotRead (d .chosen) (Aux c)
     aux-reads-no-later h i z e = omega (arith, ordered .aux k here d .aux i c z e)
 
-    pub aux-reads-no-next : ac ≤ c → Unread (d .chosen) (NextAux c)
+    pub aux-reads-no-next : ac ≤ c → NotRead (d .chosen) (NextAux c)
     aux-reads-no-next h i z e = omega (arith, ordered .aux k here d .nextAux i c z e)
 
   -- one more substitution, whichever it is
