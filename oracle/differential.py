@@ -5,8 +5,8 @@
                            [--replay PROGRAM | --no-dumps]
 
 COUNT circuits of each theme, numbered from FIRST; a number is a seed. The
-oracle grows each circuit inside document 01's domain, so every frame of it is
-accepted, and `frames` must answer each byte for byte alike. The same circuits
+oracle grows each circuit inside document 01's domain (docs/REQUESTS.md: counts
+over the columns of both rows), so every frame of it is accepted, and `frames` must answer each byte for byte alike. The same circuits
 with their sums, and with every reading of every node, go through `replay`
 (but for towers, some of whose walks are longer than the list that it lends).
 
