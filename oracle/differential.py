@@ -6,9 +6,10 @@
 
 COUNT circuits of each theme, numbered from FIRST; a number is a seed. The
 oracle grows each circuit inside document 01's domain (docs/REQUESTS.md: counts
-over the columns of both rows), so every frame of it is accepted, and `frames` must answer each byte for byte alike. The same circuits
-with their sums, and with every reading of every node, go through `replay`
-(but for towers, some of whose walks are longer than the list that it lends).
+over the columns of both rows), so every frame of it is accepted, and `frames`
+must answer each byte for byte alike. The same circuits with their sums, and
+with every reading of every node, go through `replay` (but for towers, some of
+whose walks are longer than the list that it lends).
 
 The first disagreement is shrunk, as far as document 01 (check.py) goes on
 accepting every frame, and printed; the exit status is then 1.
