@@ -1,5 +1,6 @@
--- The wires of the base product (crates/arithmetic/specs/Board.antt) are the code's, for all words: high and low are what `product` answers, and the last
--- one is the product modulo p. Assumes nothing.
+-- The wires of the base product (crates/arithmetic/specs/Board.antt) are the code's, for all words: high and low are what `product` answers (`product-is`,
+-- by which it is proved, says so of all wires between), `difference` and `sum` what those functions answer, and the last one is the product modulo p.
+-- Assumes nothing.
 use mathlib.Core.Path.{_≡_, refl, _∙_, ap, sym}
 use mathlib.Core.Bool.{Bool, true, false, cond}
 use Prim.Native.Nat.{ℕ, _+_, _-_, _*_, _/_, _%_, _^_, _≤_, _<_}
@@ -36,9 +37,19 @@ difference-of a b ha hb = go (ltb a b) refl
         let h : b ≤ a = ltb-false a b e in
         plain h (omega arith)
 
--- and so is `sum`
-sum-of : (a b : ℕ) → a < 2 ^ 64 → b < 2 ^ 64 → a + b < 2 * p → board.sum a b ≡ add a b
-sum-of a b ha hb l = go (ltb (board.s a b) a) refl (leb p (board.s a b)) refl
+-- and nothing else is
+pub board-difference : (a b r : ℕ) → a < 2 ^ 64 → b ≤ p → Difference a b r → r ≡ board.difference a b
+board-difference a b r ha hb d = one-difference d (difference-of a b ha hb)
+  where
+    one-difference : {s : ℕ} → Difference a b r → Difference a b s → r ≡ s
+    one-difference (plain h e) (plain k f) = omega arith
+    one-difference (plain h e) (around k f) = omega arith
+    one-difference (around h e) (plain k f) = omega arith
+    one-difference (around h e) (around k f) = omega arith
+
+-- `sum` of the board is that of the code
+pub board-sum : (a b : ℕ) → a < 2 ^ 64 → b < 2 ^ 64 → a + b < 2 * p → board.sum a b ≡ add a b
+board-sum a b ha hb l = go (ltb (board.s a b) a) refl (leb p (board.s a b)) refl
   where
     go : (t : Bool) → ltb (board.s a b) a ≡ t → (o : Bool) → leb p (board.s a b) ≡ o → cond t (board.s a b + board.missed) (cond o (board.s a b - p) (board.s a b)) ≡ add a b
     go true e o f = wrapped a b (board.s a b) ha hb l refl (ltb-true (board.s a b) a e)
@@ -47,7 +58,7 @@ sum-of a b ha hb l = go (ltb (board.s a b) a) refl (leb p (board.s a b)) refl
 
 -- two words to one: with h₁ taken away, the sum is below 2·p
 reduced-of : (H l t : ℕ) → l < 2 ^ 64 → Difference l (H / 2 ^ 32) t → board.sum t (H % 2 ^ 32 * board.missed) ≡ (H * 2 ^ 64 + l) % p
-reduced-of H l t h d = let (a, b) = small d in sum-of t (H % 2 ^ 32 * board.missed) a (omega arith) b ∙ folded H l t d
+reduced-of H l t h d = let (a, b) = small d in board-sum t (H % 2 ^ 32 * board.missed) a (omega arith) b ∙ folded H l t d
   where
     small : Difference l (H / 2 ^ 32) t → (t < 2 ^ 64) × (t + H % 2 ^ 32 * board.missed < 2 * p)
     small (plain g e) = (omega arith, omega arith)

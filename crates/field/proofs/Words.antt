@@ -5,6 +5,7 @@ use native.Mathlib.Nat.{zero-add, add-zero, mod-mod, mod-eq-of-lt, mod-add-mod, 
 use lib.Pow.{split}
 use native.Mathlib.Omega.{arith}
 use Rattle.arithmetic.specs.Base.{p, add, subtract, negate}
+use Rattle.arithmetic.specs.Board as board
 use Rattle.field.specs.declared.base.Carried.{Carried}
 use Rattle.field.specs.declared.base.Wide.{Wide}
 use Rattle.field.specs.Words.{Added, Difference, plain, around, Product, value}
@@ -85,41 +86,26 @@ expand P a₀ a₁ b₀ b₁ = simp (mul-add, add-mul, mul-assoc, mul-comm, mul-
 halves : (u v : ℕ) → u * v ≡ u / 2 ^ 32 * (v / 2 ^ 32) * 2 ^ 64 + u / 2 ^ 32 * (v % 2 ^ 32) * 2 ^ 32 + u % 2 ^ 32 * (v / 2 ^ 32) * 2 ^ 32 + u % 2 ^ 32 * (v % 2 ^ 32)
 halves u v = sym (λ i. split u 32 i * split v 32 i) ∙ expand (2 ^ 32) (u % 2 ^ 32) (u / 2 ^ 32) (v % 2 ^ 32) (v / 2 ^ 32)
 
--- the columns below the high word, added with their carries
-abbrev right : ℕ → ℕ → ℕ
-right x y = y + x / 2 ^ 32
-
-abbrev left : ℕ → ℕ → ℕ → ℕ
-left x y z = right x y % 2 ^ 32 + z
-
 -- the low word wraps to what the columns leave in it
-wraps : (x y z : ℕ) → ((y + z) % 2 ^ 64 % 2 ^ 32 * 2 ^ 32 + x) % 2 ^ 64 ≡ left x y z % 2 ^ 32 * 2 ^ 32 + x % 2 ^ 32
+wraps : (x y z : ℕ) → ((y + z) % 2 ^ 64 % 2 ^ 32 * 2 ^ 32 + x) % 2 ^ 64 ≡ ((y + x / 2 ^ 32) % 2 ^ 32 + z) % 2 ^ 32 * 2 ^ 32 + x % 2 ^ 32
 wraps x y z = omega arith
 
-columns : (x y z w : ℕ) → (w + right x y / 2 ^ 32 + left x y z / 2 ^ 32) * 2 ^ 64 + (left x y z % 2 ^ 32 * 2 ^ 32 + x % 2 ^ 32) ≡ w * 2 ^ 64 + y * 2 ^ 32 + z * 2 ^ 32 + x
+-- the columns with their carries: x is u0·v0, y and z the cross products, w is u1·v1
+columns : (x y z w : ℕ)
+    → (w + (y + x / 2 ^ 32) / 2 ^ 32 + ((y + x / 2 ^ 32) % 2 ^ 32 + z) / 2 ^ 32) * 2 ^ 64 + (((y + x / 2 ^ 32) % 2 ^ 32 + z) % 2 ^ 32 * 2 ^ 32 + x % 2 ^ 32)
+    ≡ w * 2 ^ 64 + y * 2 ^ 32 + z * 2 ^ 32 + x
 columns x y z w = omega arith
 
-pub product-is : (u v l : ℕ)
-    → u < 2 ^ 64
-    → v < 2 ^ 64
-    → l ≡ ((u / 2 ^ 32 * (v % 2 ^ 32) + u % 2 ^ 32 * (v / 2 ^ 32)) % 2 ^ 64 % 2 ^ 32 * 2 ^ 32 + u % 2 ^ 32 * (v % 2 ^ 32)) % 2 ^ 64
-    → Product u v (record {
-      top = 0;
-      high = u / 2 ^ 32 * (v / 2 ^ 32) + right (u % 2 ^ 32 * (v % 2 ^ 32)) (u / 2 ^ 32 * (v % 2 ^ 32)) / 2 ^ 32 + left (u % 2 ^ 32 * (v % 2 ^ 32)) (u / 2 ^ 32 * (v % 2 ^ 32)) (u % 2 ^ 32 * (v / 2 ^ 32)) / 2 ^ 32;
-      low = l;
-    })
+-- the wires of the board (arithmetic's specs/Board.antt) are the product: `product` is proved by this, so its own wires are the board's
+pub product-is : (u v l : ℕ) → u < 2 ^ 64 → v < 2 ^ 64 → l ≡ board.low u v → Product u v (record { top = 0; high = board.high u v; low = l })
 unfolding value
 product-is u v l hu hv e =
-    let x = u % 2 ^ 32 * (v % 2 ^ 32) in
-    let y = u / 2 ^ 32 * (v % 2 ^ 32) in
-    let z = u % 2 ^ 32 * (v / 2 ^ 32) in
-    let w = u / 2 ^ 32 * (v / 2 ^ 32) in
     let b = bounds u v hu hv in
     record {
       whole =
-          ap (λ (n : ℕ). n * 2 ^ 64 + l) (zero-add (w + right x y / 2 ^ 32 + left x y z / 2 ^ 32))
-          ∙ ap (λ (n : ℕ). (w + right x y / 2 ^ 32 + left x y z / 2 ^ 32) * 2 ^ 64 + n) (e ∙ wraps x y z)
-          ∙ columns x y z w
+          ap (λ (n : ℕ). n * 2 ^ 64 + l) (zero-add (board.high u v))
+          ∙ ap (λ (n : ℕ). board.high u v * 2 ^ 64 + n) (e ∙ wraps (board.p00 u v) (board.p10 u v) (board.p01 u v))
+          ∙ columns (board.p00 u v) (board.p10 u v) (board.p01 u v) (board.p11 u v)
           ∙ sym (halves u v);
       double = refl;
       room = omega arith;
