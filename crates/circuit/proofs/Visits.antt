@@ -17,7 +17,7 @@ use Rattle.layout.specs.Lists.{upTo, any}
 use Rattle.layout.specs.Words.{used, offset, expressionAt}
 use Rattle.layout.specs.NotCircuit.{badNode, eitherOperand, goesOn, cyclic}
 use Rattle.circuit.specs.Rank.{at}
-use Rattle.circuit.specs.Walk.{stepOf, finished, Unfinished, Taken, Walking, Walkable, Visiting, Visited, Ranked, Walked}
+use Rattle.circuit.specs.Walk.{stepOf, finished, Unfinished, Taken, Walking, Walkable, Visiting, Falls, Below, Visited, Ranked, Walked}
 use Rattle.layout.proofs.Tests.{or-false, or-right, any-at, any-one, any-none, same-or, below-or, last-or}
 use Rattle.layout.proofs.Valid.{header-top, header-room, header-fits, node-operands}
 use Rattle.circuit.proofs.Marks.{finished-lt, finished-all, finished-none, finished-set}
@@ -129,16 +129,21 @@ module _ (m rank : List ℕ) (i done : ℕ) (v : Visiting m rank i done) (unfini
       }
 
   -- the end of a visit that began at rank₀, and since then kept what was finished
-  pub finish-visit : (rank₀ : List ℕ) (levels : ℕ) → ((j : ℕ) → at rank₀ j < used m → at rank j ≡ at rank₀ j) → Ready m rank i → Visited m rank₀ (set rank i done) i levels (done + 1)
-  finish-visit rank₀ levels kept₀ ready = record {
+  pub finish-visit : (rank₀ : List ℕ) (levels : ℕ) → ((j : ℕ) → at rank₀ j < used m → at rank j ≡ at rank₀ j) → Below m rank₀ rank i → Ready m rank i → Visited m rank₀ (set rank i done) i levels (done + 1)
+  finish-visit rank₀ levels kept₀ below₀ ready = record {
     walking = λ _. finish-walking ready;
     kept = λ _ j h. let e = kept₀ j h in rank-kept j (omega arith) ∙ e;
     here = λ _. rw rank-here finish-room;
     last = λ _. inr (rw rank-here);
+    below = λ _ t f g j h. ⊎-elim (λ e. inr (rw e g)) (λ n. below₀ t f g j (rw (rank-other j n) at h)) (same-or j i);
     goes-on = λ z. absurd (omega arith);
   }
 
 -- the other ends of a visit
+
+-- nothing was finished
+pub none-below : (m rank : List ℕ) (i : ℕ) → Below m rank rank i
+none-below m rank i t f g j h = inl h
 
 pub visit-known : (m rank : List ℕ) (i levels done : ℕ) → Visiting m rank i done → at rank i < used m → Visited m rank rank i levels done
 visit-known m rank i levels done v h = record {
@@ -146,6 +151,7 @@ visit-known m rank i levels done v h = record {
   kept = λ _ j k. refl;
   here = λ _. h;
   last = λ _. inl refl;
+  below = λ _. none-below m rank i;
   goes-on = λ z. absurd (let b = v .walking .before i (v .here) h in omega arith);
 }
 
@@ -155,6 +161,7 @@ visit-fails m rank rank′ i levels g = record {
   kept = λ z. absurd (z refl);
   here = λ z. absurd (z refl);
   last = λ z. absurd (z refl);
+  below = λ z. absurd (z refl);
   goes-on = λ _. g;
 }
 
@@ -224,6 +231,12 @@ module _ (m rank : List ℕ) (i done : ℕ) (v : Visiting m rank i done) (a b : 
 
       pub two-kept : (j : ℕ) → at rank j < used m → at rank₂ j ≡ at rank j
       two-kept j h = let e = x .kept some j h in y .kept more j (omega arith) ∙ e
+
+      pub two-low : Below m rank rank₂ i
+      two-low t f g j h =
+          let two = is-two in
+          let (ga, gb) = f i (two .op) a b g (two .is) in
+          ⊎-elim (λ k. x .below some t f ga j k) inr (y .below more t f gb j h)
 
       pub two-ready : Ready m rank₂ i
       two-ready o l r e =

@@ -59,6 +59,14 @@ pub record Visiting (m rank : List ℕ) (i done : ℕ) : Type 0 where
   pub here : i < used m
   pub walking : Walking m rank done
 
+-- a test that goes from a node to its operands
+abbrev pub Falls : List ℕ → (ℕ → Bool) → Type 0
+Falls m t = (i : ℕ) (o : Op) (l r : ℕ) → t i ≡ true → expressionAt m i ≡ Operation o l r → (t l ≡ true) × (t r ≡ true)
+
+-- what is finished now, and wasn't before, lies below node i
+abbrev pub Below : List ℕ → List ℕ → List ℕ → ℕ → Type 0
+Below m rank rank′ i = (t : ℕ → Bool) → Falls m t → t i ≡ true → (j : ℕ) → at rank′ j < used m → (at rank j < used m) ⊎ (t j ≡ true)
+
 -- after a visit of node i: its answer is the number of finished nodes, i among them and the last if it was not, or 0 if a path from i goes on
 -- for `levels`
 pub record Visited (m rank rank′ : List ℕ) (i levels answer : ℕ) : Type 0 where
@@ -66,6 +74,7 @@ pub record Visited (m rank rank′ : List ℕ) (i levels answer : ℕ) : Type 0 
   pub kept : answer ≢ 0 → (j : ℕ) → at rank j < used m → at rank′ j ≡ at rank j
   pub here : answer ≢ 0 → at rank′ i < used m
   pub last : answer ≢ 0 → (rank′ ≡ rank) ⊎ (at rank′ i + 1 ≡ answer)
+  pub below : answer ≢ 0 → Below m rank rank′ i
   pub goes-on : answer ≡ 0 → goesOn m levels i ≡ true
 
 -- all nodes are finished

@@ -192,7 +192,7 @@ pub fn step_at(m: &[u64], i: u64) -> Step
 
 // Finishes node i, after all below it, each once: a node whose rank is not below the used count is not finished. `done` are finished so far,
 // and the answer is how many are then; or 0, no number of finished nodes, where a path from i goes on for so many levels.
-fn visit(m: &[u64], rank: &mut [u64], i: u64, done: u64, levels: u64) -> u64
+pub fn visit(m: &[u64], rank: &mut [u64], i: u64, done: u64, levels: u64) -> u64
     requires { ⌜ Visiting (now m) (now rank) i done ⌝ }
     ensures { λ r. ⌜ Visited (now (m .entry)) (now (rank .entry)) (now (rank .exit)) i levels r ⌝ }
 {
@@ -224,7 +224,7 @@ fn visit(m: &[u64], rank: &mut [u64], i: u64, done: u64, levels: u64) -> u64
     }
 }
 
-fn unfinish(rank: &mut [u64], n: u64)
+pub fn unfinish(rank: &mut [u64], n: u64)
     requires { ⌜ n ≤ length (now rank) ⌝ }
     ensures { λ r. ⌜ Unfinished (now (rank .exit)) n ⌝ }
 {

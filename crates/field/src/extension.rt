@@ -104,3 +104,14 @@ pub fn multiply(a: Triple, b: Triple) -> Triple
         c2: sum(d[2], d[4]),
     }
 }
+
+// A base element times a triple: three products, where the general case takes nine.
+pub fn scale(b: u64, a: Triple) -> Triple
+    ensures { λ r. ⌜ r ≡ extension.times (extension.lift b) a ⌝ }
+{
+    Triple {
+        c0: base::multiply(b, a.c0),
+        c1: base::multiply(b, a.c1),
+        c2: base::multiply(b, a.c2),
+    }
+}

@@ -48,7 +48,7 @@ fn main_at(row: &[u64], c: u64) -> Triple
 }
 
 // Column c of one row of an auxiliary table, or a challenge.
-fn aux_at(row: &[u64], c: u64) -> Triple
+pub fn aux_at(row: &[u64], c: u64) -> Triple
     ensures { λ r. ⌜ r ≡ tripleAt (now (row .entry)) c ⌝ }
 {
     let k = c as usize;
@@ -90,7 +90,7 @@ fn leaf_value(e: Expression, main: &[u64], aux: &[u64], challenges: &[u64]) -> T
 }
 
 // Entry i of the table of values.
-fn entry_at(table: &[u64], i: u64) -> Triple
+pub fn entry_at(table: &[u64], i: u64) -> Triple
     requires { ⌜ 3 * i + 2 < length (now table) ⌝ }
     ensures { λ r. ⌜ r ≡ tripleAt (now (table .entry)) i ⌝ }
 {
@@ -102,7 +102,7 @@ fn entry_at(table: &[u64], i: u64) -> Triple
     }
 }
 
-fn keep(table: &mut [u64], i: u64, x: Triple)
+pub fn keep(table: &mut [u64], i: u64, x: Triple)
     requires { ⌜ 3 * i + 2 < length (now table) ⌝ }
     ensures { λ r. ⌜ now (table .exit) ≡ putTriple (now (table .entry)) i x ⌝ }
 {

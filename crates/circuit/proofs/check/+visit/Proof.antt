@@ -3,7 +3,7 @@ use native.Mathlib.Omega.{arith}
 use mathlib.Core.Path.{refl, sym, ap, _∙_}
 use lib.ListN.{length-set}
 use Rattle.circuit.specs.Walk.{stepOf}
-use Rattle.circuit.proofs.Visits.{visit-room, visit-known, visit-fails, out-of-levels, finish-small, finish-visit, stay-ready, visit-left, visit-right, goes-left, goes-right, visit-node, still-unfinished, two-kept, two-ready}
+use Rattle.circuit.proofs.Visits.{visit-room, none-below, visit-known, visit-fails, out-of-levels, finish-small, finish-visit, stay-ready, visit-left, visit-right, goes-left, goes-right, visit-node, still-unfinished, two-kept, two-low, two-ready}
 use Prim.Native.Nat.{ℕ, _<_}
 use borrow.Fn.Kinds.{In}
 use borrow.Fn.PlainCycle.{Measures, is, falls, and}
@@ -272,7 +272,7 @@ visit-returns-5 : (t : ℕ) → visit-lts.Need-returns-5 (
   visit-below t,
   visit.Post,
 ) (visit-at t) visit.Post
-visit-returns-5 t c = finish-visit _ _ _ _ (c .before .before .before .before .before .before .before .before .before .before .pre .1) (c .before .before .before .before .before .if1 .left) _ _ (λ j h. refl) (stay-ready _ (c .before .before .before .before .before .before .before .before .before .before .args .rank .now) _ (ap stepOf (sym (c .before .before .before .expression-at .ensures)) ∙ sym (c .before .before .step-of .ensures) ∙ c .enum-told .given .1))
+visit-returns-5 t c = finish-visit _ _ _ _ (c .before .before .before .before .before .before .before .before .before .before .pre .1) (c .before .before .before .before .before .if1 .left) _ _ (λ j h. refl) (none-below _ (c .before .before .before .before .before .before .before .before .before .before .args .rank .now) _) (stay-ready _ (c .before .before .before .before .before .before .before .before .before .before .args .rank .now) _ (ap stepOf (sym (c .before .before .before .expression-at .ensures)) ∙ sym (c .before .before .step-of .ensures) ∙ c .enum-told .given .1))
 
 visit-same-length-4 : (t : ℕ) → visit-lts.Need-same-length-4 (
   expression-at-reads.Asked,
@@ -292,7 +292,7 @@ visit-returns-6 : (t : ℕ) → visit-lts.Need-returns-6 (
   visit-below t,
   visit.Post,
 ) (visit-at t) visit.Post
-visit-returns-6 t c = finish-visit _ _ _ _ (visit-node _ _ _ _ (c .before .before .before .before .before .before .before .before .before .before .before .before .before .before .before .before .before .before .before .before .before .pre .1) _ _ (ap stepOf (sym (c .before .before .before .before .before .before .before .before .before .before .before .before .before .before .expression-at .ensures)) ∙ sym (c .before .before .before .before .before .before .before .before .before .before .before .before .before .step-of .ensures) ∙ c .before .before .before .before .before .before .before .before .before .before .before .s .given .1) _ _ _ (c .before .before .before .before .before .before .before .before .visit .kept .1 .0) (c .before .before .before .before .before .before .before .before .visit .ensures) (c .before .before .before .before .before .if3 .left) _ _ _ (c .before .before .before .visit2 .kept .1 .0) (c .before .before .before .visit2 .ensures) (c .if4 .left)) (still-unfinished _ _ _ _ (c .before .before .before .before .before .before .before .before .before .before .before .before .before .before .before .before .before .before .before .before .before .pre .1) _ _ (ap stepOf (sym (c .before .before .before .before .before .before .before .before .before .before .before .before .before .before .expression-at .ensures)) ∙ sym (c .before .before .before .before .before .before .before .before .before .before .before .before .before .step-of .ensures) ∙ c .before .before .before .before .before .before .before .before .before .before .before .s .given .1) _ _ _ (c .before .before .before .before .before .before .before .before .visit .kept .1 .0) (c .before .before .before .before .before .before .before .before .visit .ensures) (c .before .before .before .before .before .if3 .left) _ _ _ (c .before .before .before .visit2 .kept .1 .0) (c .before .before .before .visit2 .ensures) (c .if4 .left) (c .before .before .before .before .before .before .before .before .before .before .before .before .before .before .before .before .if1 .left)) _ _ (two-kept _ _ _ _ (c .before .before .before .before .before .before .before .before .before .before .before .before .before .before .before .before .before .before .before .before .before .pre .1) _ _ (ap stepOf (sym (c .before .before .before .before .before .before .before .before .before .before .before .before .before .before .expression-at .ensures)) ∙ sym (c .before .before .before .before .before .before .before .before .before .before .before .before .before .step-of .ensures) ∙ c .before .before .before .before .before .before .before .before .before .before .before .s .given .1) _ _ _ (c .before .before .before .before .before .before .before .before .visit .kept .1 .0) (c .before .before .before .before .before .before .before .before .visit .ensures) (c .before .before .before .before .before .if3 .left) _ _ _ (c .before .before .before .visit2 .kept .1 .0) (c .before .before .before .visit2 .ensures) (c .if4 .left)) (two-ready _ _ _ _ (c .before .before .before .before .before .before .before .before .before .before .before .before .before .before .before .before .before .before .before .before .before .pre .1) _ _ (ap stepOf (sym (c .before .before .before .before .before .before .before .before .before .before .before .before .before .before .expression-at .ensures)) ∙ sym (c .before .before .before .before .before .before .before .before .before .before .before .before .before .step-of .ensures) ∙ c .before .before .before .before .before .before .before .before .before .before .before .s .given .1) _ _ _ (c .before .before .before .before .before .before .before .before .visit .kept .1 .0) (c .before .before .before .before .before .before .before .before .visit .ensures) (c .before .before .before .before .before .if3 .left) _ _ _ (c .before .before .before .visit2 .kept .1 .0) (c .before .before .before .visit2 .ensures) (c .if4 .left))
+visit-returns-6 t c = finish-visit _ _ _ _ (visit-node _ _ _ _ (c .before .before .before .before .before .before .before .before .before .before .before .before .before .before .before .before .before .before .before .before .before .pre .1) _ _ (ap stepOf (sym (c .before .before .before .before .before .before .before .before .before .before .before .before .before .before .expression-at .ensures)) ∙ sym (c .before .before .before .before .before .before .before .before .before .before .before .before .before .step-of .ensures) ∙ c .before .before .before .before .before .before .before .before .before .before .before .s .given .1) _ _ _ (c .before .before .before .before .before .before .before .before .visit .kept .1 .0) (c .before .before .before .before .before .before .before .before .visit .ensures) (c .before .before .before .before .before .if3 .left) _ _ _ (c .before .before .before .visit2 .kept .1 .0) (c .before .before .before .visit2 .ensures) (c .if4 .left)) (still-unfinished _ _ _ _ (c .before .before .before .before .before .before .before .before .before .before .before .before .before .before .before .before .before .before .before .before .before .pre .1) _ _ (ap stepOf (sym (c .before .before .before .before .before .before .before .before .before .before .before .before .before .before .expression-at .ensures)) ∙ sym (c .before .before .before .before .before .before .before .before .before .before .before .before .before .step-of .ensures) ∙ c .before .before .before .before .before .before .before .before .before .before .before .s .given .1) _ _ _ (c .before .before .before .before .before .before .before .before .visit .kept .1 .0) (c .before .before .before .before .before .before .before .before .visit .ensures) (c .before .before .before .before .before .if3 .left) _ _ _ (c .before .before .before .visit2 .kept .1 .0) (c .before .before .before .visit2 .ensures) (c .if4 .left) (c .before .before .before .before .before .before .before .before .before .before .before .before .before .before .before .before .if1 .left)) _ _ (two-kept _ _ _ _ (c .before .before .before .before .before .before .before .before .before .before .before .before .before .before .before .before .before .before .before .before .before .pre .1) _ _ (ap stepOf (sym (c .before .before .before .before .before .before .before .before .before .before .before .before .before .before .expression-at .ensures)) ∙ sym (c .before .before .before .before .before .before .before .before .before .before .before .before .before .step-of .ensures) ∙ c .before .before .before .before .before .before .before .before .before .before .before .s .given .1) _ _ _ (c .before .before .before .before .before .before .before .before .visit .kept .1 .0) (c .before .before .before .before .before .before .before .before .visit .ensures) (c .before .before .before .before .before .if3 .left) _ _ _ (c .before .before .before .visit2 .kept .1 .0) (c .before .before .before .visit2 .ensures) (c .if4 .left)) (two-low _ _ _ _ (c .before .before .before .before .before .before .before .before .before .before .before .before .before .before .before .before .before .before .before .before .before .pre .1) _ _ (ap stepOf (sym (c .before .before .before .before .before .before .before .before .before .before .before .before .before .before .expression-at .ensures)) ∙ sym (c .before .before .before .before .before .before .before .before .before .before .before .before .before .step-of .ensures) ∙ c .before .before .before .before .before .before .before .before .before .before .before .s .given .1) _ _ _ (c .before .before .before .before .before .before .before .before .visit .kept .1 .0) (c .before .before .before .before .before .before .before .before .visit .ensures) (c .before .before .before .before .before .if3 .left) _ _ _ (c .before .before .before .visit2 .kept .1 .0) (c .before .before .before .visit2 .ensures) (c .if4 .left)) (two-ready _ _ _ _ (c .before .before .before .before .before .before .before .before .before .before .before .before .before .before .before .before .before .before .before .before .before .pre .1) _ _ (ap stepOf (sym (c .before .before .before .before .before .before .before .before .before .before .before .before .before .before .expression-at .ensures)) ∙ sym (c .before .before .before .before .before .before .before .before .before .before .before .before .before .step-of .ensures) ∙ c .before .before .before .before .before .before .before .before .before .before .before .s .given .1) _ _ _ (c .before .before .before .before .before .before .before .before .visit .kept .1 .0) (c .before .before .before .before .before .before .before .before .visit .ensures) (c .before .before .before .before .before .if3 .left) _ _ _ (c .before .before .before .visit2 .kept .1 .0) (c .before .before .before .visit2 .ensures) (c .if4 .left))
 
 pub +visit-spec : {M : Type 1} → statement M
 +visit-spec = close μ-visit λ t. visit-lts.spec (

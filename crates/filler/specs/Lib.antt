@@ -1,0 +1,2 @@
+-- What the inner functions ask and give. What the calls answer is the crate filling.
+pub mod Running
