@@ -1,2 +1,4 @@
 -- The laws behind the proofs of this crate.
 pub mod Runs
+pub mod Instructions
+pub mod Plans

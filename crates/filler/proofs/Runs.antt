@@ -1,15 +1,19 @@
 -- A plan, instruction by instruction: the tables keep their lengths, and one more is done after the others. Assumes nothing.
 use Prim.Native.Nat.{ℕ, zero, suc, _+_, _*_, _<_, _≤_}
 use mathlib.Core.Path.{_≡_, refl, sym, ap, _∙_}
-use mathlib.Core.Logic.{⊎-elim}
+use mathlib.Core.Logic.{_≢_, ⊎-elim}
 use mathlib.Core.List.{List}
 use native.Mathlib.Numerals.{add-one}
 use native.Mathlib.Omega.{arith}
 use lib.ListN.{length, set, length-set}
+use lib.Seq.{getD-set-other}
 use borrow.Author.Tests.{lt-ltb, le-ltb}
 use Rattle.arithmetic.specs.declared.Triple.{Triple}
 use Rattle.layout.proofs.Tests.{below-or}
 use Rattle.read.specs.Values.{putTriple}
+use Rattle.read.proofs.Values.{put-length, put-other}
+use Rattle.reading.specs.Calls.{tripleAt}
+use Rattle.circuit.specs.Rank.{at}
 use Rattle.filler.specs.declared.run.Instruction.{Instruction}
 use Rattle.filler.specs.Running.{Values, instructionAt, wordOf, tripleOf, stepped, ran, Sound, Roomy, Doable, Runnable}
 
@@ -29,14 +33,19 @@ word-done x main aux words triples w h e = rw e (sym (step-word x main aux (word
 pub triple-done : (x : Instruction) (main aux words triples triples′ : List ℕ) (v : Triple) → 3 ≤ x .op → v ≡ tripleOf x aux words triples → triples′ ≡ putTriple triples (x .to) v → (words, triples′) ≡ stepped x main aux (words, triples)
 triple-done x main aux words triples triples′ v h e f = rw (f, e) (sym (step-triple x main aux (words, triples) h))
 
-put-length : (table : List ℕ) (i : ℕ) (x : Triple) → length (putTriple table i x) ≡ length table
-put-length table i x = length-set (set (set table (3 * i) (x .c0)) (3 * i + 1) (x .c1)) (3 * i + 2) (x .c2) ∙ length-set (set table (3 * i) (x .c0)) (3 * i + 1) (x .c1) ∙ length-set table (3 * i) (x .c0)
-
 pub stepped-lengths : (x : Instruction) (main aux : List ℕ) (v : Values) → (length (stepped x main aux v .0) ≡ length (v .0)) × (length (stepped x main aux v .1) ≡ length (v .1))
 stepped-lengths x main aux v =
     ⊎-elim
     (λ h. rw (step-word x main aux v h) (length-set (v .0) (x .to) (wordOf x main (v .0)), refl))
     (λ h. rw (step-triple x main aux v h) (refl, put-length (v .1) (x .to) (tripleOf x aux (v .0) (v .1))))
+    (below-or (x .op) 3)
+
+-- other entries stay
+pub step-other : (x : Instruction) (main aux : List ℕ) (v : Values) (i : ℕ) → i ≢ x .to → (at (stepped x main aux v .0) i ≡ at (v .0) i) × (tripleAt (stepped x main aux v .1) i ≡ tripleAt (v .1) i)
+step-other x main aux v i n =
+    ⊎-elim
+    (λ h. rw (step-word x main aux v h) (getD-set-other (v .0) (x .to) i (wordOf x main (v .0)) 0 n, refl))
+    (λ h. rw (step-triple x main aux v h) (refl, put-other (v .1) (x .to) (tripleOf x aux (v .0) (v .1)) i n))
     (below-or (x .op) 3)
 
 module _ (plan main aux : List ℕ) (v : Values) where

@@ -1,2 +1,4 @@
 -- What the inner functions ask and give. What the calls answer is the crate filling.
 pub mod Running
+pub mod Planning
+pub mod Ordering
