@@ -159,12 +159,12 @@ module _ (s : Shape) (m bases targets challenges order rank : List ℕ) (done : 
         stands-triple a m (stepped x main aux w) i i (input-base (y .position) (y .is) ∙ y .kind) (wrote-triple x main aux w (ready .rooms) low (omega arith) ∙ sym (input-value (y .position) (y .is) ∙ says .wide i c (y .position) here (y .is) is))
 
     -- a new column's input, and its expression e in the entry t
-    module _ (k : ℕ) (h : sourceOf s (expressionAt m i) ≡ Item k) (few : k < s .items) (based : isBase (tree m i) ≡ true → isBase (tree m (at targets k)) ≡ true) where
+    module _ (k : ℕ) (h : sourceOf s (expressionAt m i) ≡ Item k) (few : k < s .items) (fresh : isBase (tree m i) ≡ true → k < s .fresh) (based : isBase (tree m i) ≡ true → isBase (tree m (at targets k)) ≡ true) where
       item-value : value a (tree m i) ≡ value a (tree m (at targets k))
       item-value = go (item-input s (expressionAt m i) k h)
         where
           of : (y : Position) → expressionAt m i ≡ Input y → value a (tree m i) ≡ value a (tree m (at targets k))
-          of y e = input-value y e ∙ says .item i k y here e (ap (sourceOf s) (sym e) ∙ h) few
+          of y e = input-value y e ∙ says .item i k y here e (ap (sourceOf s) (sym e) ∙ h) few (λ b. fresh (input-base y e ∙ b))
 
           go : ItemOf s k (expressionAt m i) → value a (tree m i) ≡ value a (tree m (at targets k))
           go (main-item c e l q) = of _ e
@@ -372,7 +372,7 @@ module _ (s : Shape) (m bases targets challenges order rank : List ℕ) (done : 
       turn-stands (Item k) e =
           let (b, f) = item-planned k e in
           rw (bit-at i here-below, bit-at (at targets k) b)
-          (item-stands a main aux says w ready-now i here-below k e (able .staged .item-below i k here-below finished e) (able .staged .item-base i k here-below finished e) (at alias (at targets k)) (known-stands (at targets k) b f a main aux v says ready) (isBase (tree m i)) (isBase (tree m (at targets k))) refl refl)
+          (item-stands a main aux says w ready-now i here-below k e (able .staged .item-below i k here-below finished e) (able .staged .item-fresh i k here-below finished e) (able .staged .item-base i k here-below finished e) (at alias (at targets k)) (known-stands (at targets k) b f a main aux v says ready) (isBase (tree m i)) (isBase (tree m (at targets k))) refl refl)
       turn-stands (Join o l r) e =
           let q = joins-operation s (expressionAt m i) o l r e in
           let ((lb, lf), (rb, rf)) = join-planned o l r q in

@@ -14,7 +14,7 @@ use Rattle.layout.specs.declared.node.Position.the-variants.{Main, Aux, NextMai
 use Rattle.layout.specs.declared.node.Expression.{Expression}
 use Rattle.layout.specs.declared.node.Expression.the-variants.{Base, Extension, Challenge, Operation, Input}
 use Rattle.layout.specs.Lists.{if_then_else_}
-use Rattle.layout.specs.Words.{used, rowKind, expressionAt}
+use Rattle.layout.specs.Words.{used, rowKind, expressionAt, isMain}
 use Rattle.layout.specs.Tree.{tree}
 use Rattle.layout.specs.NotCircuit.{notCircuit}
 use Rattle.circuit.specs.Rank.{at}
@@ -96,6 +96,7 @@ pub record Staged (s : Shape) (m targets order rank : List ℕ) (done : ℕ) : T
   pub right-first : (i : ℕ) (o : Op) (l r : ℕ) → i < used m → at rank i < used m → expressionAt m i ≡ Operation o l r → at rank r < at rank i
   pub item-below : (i k : ℕ) → i < used m → at rank i < used m → sourceOf s (expressionAt m i) ≡ Item k → k < s .items
   pub item-first : (i k : ℕ) → i < used m → at rank i < used m → sourceOf s (expressionAt m i) ≡ Item k → at rank (at targets k) < at rank i
+  pub item-fresh : (i k : ℕ) → i < used m → at rank i < used m → sourceOf s (expressionAt m i) ≡ Item k → isBase (tree m i) ≡ true → k < s .fresh
   pub item-base : (i k : ℕ) → i < used m → at rank i < used m → sourceOf s (expressionAt m i) ≡ Item k → isBase (tree m i) ≡ true → isBase (tree m (at targets k)) ≡ true
   pub word-in : (i c : ℕ) → i < used m → at rank i < used m → sourceOf s (expressionAt m i) ≡ Word c → c < rowKind m * s .row
   pub wide-in : (i c : ℕ) → i < used m → at rank i < used m → sourceOf s (expressionAt m i) ≡ Wide c → c < rowKind m * s .wide
@@ -127,7 +128,7 @@ pub record Ready (m challenges : List ℕ) (v : Values) : Type 0 where
 pub record Says (s : Shape) (m targets challenges main aux : List ℕ) (a : Assignment) : Type 0 where
   pub cell : (i c : ℕ) (y : Position) → i < used m → expressionAt m i ≡ Input y → sourceOf s (Input y) ≡ Word c → inputValue a y ≡ lift (at main c)
   pub wide : (i c : ℕ) (y : Position) → i < used m → expressionAt m i ≡ Input y → sourceOf s (Input y) ≡ Wide c → inputValue a y ≡ tripleAt aux c
-  pub item : (i k : ℕ) (y : Position) → i < used m → expressionAt m i ≡ Input y → sourceOf s (Input y) ≡ Item k → k < s .items → inputValue a y ≡ value a (tree m (at targets k))
+  pub item : (i k : ℕ) (y : Position) → i < used m → expressionAt m i ≡ Input y → sourceOf s (Input y) ≡ Item k → k < s .items → (isMain y ≡ true → k < s .fresh) → inputValue a y ≡ value a (tree m (at targets k))
   pub given : (k : ℕ) → a .challenges k ≡ tripleAt challenges k
 
 -- a circuit with its base tests, its expressions and their order
