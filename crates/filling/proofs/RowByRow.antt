@@ -2,26 +2,23 @@
 use Prim.Native.Nat.{ℕ, zero, suc, _+_, _-_, _*_, _/_, _%_, _<_, _≤_}
 use mathlib.Core.Path.{_≡_, sym, _∙_, ap, subst}
 use mathlib.Core.Logic.{inl, inr, ⊎-elim}
-use mathlib.Core.Bool.{true, false, _||_}
+use mathlib.Core.Bool.{false}
 use mathlib.Core.List.{List, [], _∷_, _++_}
-use native.Mathlib.Nat.{suc-mul, add-mul, mul-comm, mul-assoc, mul-le-mul-right, mul-div-le, mul-div-right, div-add-mod}
+use native.Mathlib.Nat.{suc-mul}
 use native.Mathlib.Omega.{arith}
 use native.Mathlib.Decide.{decLt}
 use lib.ListN.{length, getD, take, drop, replicate, take-append-drop, length-append, length-take, length-drop, length-replicate, List·getD-append}
 use lib.Seq.{sets, length-sets, take-take, drop-drop, getD-take, getD-drop, getD-append-add}
-use lib.Dec.{ltb, eqb}
-use borrow.Author.Tests.{ltb-false, le-ltb, eqb-true, not-false}
+use borrow.Author.Tests.{le-ltb}
 use Rattle.arithmetic.specs.Base.{p}
 use Rattle.layout.specs.Lists.{any}
-use Rattle.layout.specs.Words.{rowKind, expressionAt}
+use Rattle.layout.specs.Words.{rowKind}
 use Rattle.layout.specs.NotCircuit.{notCircuit, badId, badWord}
 use Rattle.layout.specs.Outcomes.{Outcome, refusal}
 use Rattle.layout.specs.Answers.{accepted}
-use Rattle.layout.proofs.Tests.{neither, below-or}
-use Rattle.layout.proofs.Lists.{and-true}
+use Rattle.layout.proofs.Tests.{below-or}
 use Rattle.layout.proofs.Refusals.{refusal-none, refusal-next, outcome-accepted}
-use Rattle.walking.specs.Paths.{walks}
-use Rattle.filling.specs.Refusals.{beyond, badRows, notLowered}
+use Rattle.filling.specs.Refusals.{badRows, notLowered}
 use Rattle.filling.specs.Calls.{mainFilled, rowFilled, rowCleared, eachRow, fillRowsCall, allRows, fillOutcome, fillCall}
 use Rattle.filling.specs.Promise.{windowOf, rowThen, Solves, RowByRow}
 use Rattle.filling.proofs.Values.{any-split}
@@ -31,6 +28,7 @@ use Rattle.lowering.proofs.Accepts.{peel}
 use Rattle.filling.proofs.Accepts.{kinds, outcome-number}
 use Rattle.filling.proofs.Solves.{solves}
 use Rattle.filling.proofs.Rows.{Tame, Done, each-done}
+use Rattle.filling.proofs.Cleared.{kind-one, kind-wide, Sizes, sizes, aux-width, aux-room, inside, clear-tame, clears}
 
 -- zeros in the cells to be filled: then every word is below p
 zeros-low : (n c : ℕ) (l : List ℕ) → c + n ≤ length l → Low c (c + n) l → any badWord (sets l c (replicate n 0)) ≡ false
@@ -130,91 +128,41 @@ module _ (mainCount auxCount : ℕ) (m mains auxs challenges : List ℕ) (rows :
         is = ap (λ (o : Outcome (Unit {0}) (List ℕ × List ℕ)). o .lent) (outcome-accepted _ tt filled tt (main, aux) all);
       }
 
-  -- the sizes that TABLE has tested
-  record Sizes : Type 0 where
-    kind-fits : rowKind m ≤ rows
-    main-even : length main % rows ≡ 0
-    aux-even : length aux % (3 * rows) ≡ 0
-    challenges-even : eqb (length challenges % 3) 0 ≡ true
-    main-room : mainCount + length mains ≤ a
-    aux-room : auxCount + length auxs ≤ length aux / (3 * rows)
-    reads : any (λ i. beyond a (length aux / (3 * rows)) (length challenges / 3) (expressionAt m i)) (walks m (mains ++ auxs)) ≡ false
-
-  sizes : badRows rows mainCount auxCount m mains auxs main aux challenges ≡ false → Sizes
-  unfolding badRows
-  sizes h =
-      let (x, reads) = neither _ (any (λ i. beyond a (length aux / (3 * rows)) (length challenges / 3) (expressionAt m i)) (walks m (mains ++ auxs))) h in
-      let (y, rooms) = neither _ (ltb a (mainCount + length mains) || ltb (length aux / (3 * rows)) (auxCount + length auxs)) x in
-      let (z, layout) = neither (ltb rows (rowKind m)) _ y in
-      let (r₀, r₁) = neither (ltb a (mainCount + length mains)) (ltb (length aux / (3 * rows)) (auxCount + length auxs)) rooms in
-      let (l₀, l₁) = and-true (eqb (length main % rows) 0) _ (not-false _ layout) in
-      let (l₂, l₃) = and-true (eqb (length aux % (3 * rows)) 0) _ l₁ in
-      record { kind-fits = ltb-false _ _ z; main-even = eqb-true _ 0 l₀; aux-even = eqb-true _ 0 l₂; challenges-even = l₃; main-room = ltb-false _ _ r₀; aux-room = ltb-false _ _ r₁; reads = reads }
-
   module _ (ok : PassedRows) where
-    sized : Sizes
-    sized = sizes (ok .rows-test)
+    sized : Sizes mainCount auxCount m mains auxs challenges rows main aux
+    sized = sizes mainCount auxCount m mains auxs challenges rows main aux (ok .rows-test)
 
-    kind-one : 1 ≤ rowKind m
-    kind-one = ⊎-elim (λ e. omega arith) (λ e. omega arith) (kinds m (ok .valid))
+    abbrev some-row : 1 ≤ rowKind m
+    some-row = kind-one m (ok .valid)
 
-    -- three words an auxiliary column
     columns : ℕ
     columns = length aux / (3 * rows)
 
-    aux-width : b ≡ 3 * columns
+    width : b ≡ 3 * columns
     unfolding columns
-    aux-width =
-        let all : (3 * rows) * (length aux / (3 * rows)) + length aux % (3 * rows) ≡ length aux = div-add-mod (length aux) (3 * rows) in
-        let even = sized .aux-even in
-        let whole : (3 * rows) * (length aux / (3 * rows)) ≡ length aux = omega arith in
-        let turned : (3 * rows) * (length aux / (3 * rows)) ≡ rows * (3 * (length aux / (3 * rows))) =
-        ap (λ (x : ℕ). x * (length aux / (3 * rows))) (mul-comm 3 rows) ∙ mul-assoc rows 3 (length aux / (3 * rows)) in
-        let k = kind-one in
-        let f = sized .kind-fits in
-        let some : 0 < rows = omega arith in
-        ap (λ (x : ℕ). x / rows) (sym whole ∙ turned) ∙ mul-div-right (3 * (length aux / (3 * rows))) some
+    width = aux-width mainCount auxCount m mains auxs challenges rows main aux (ok .valid) (ok .rows-test)
 
-    aux-room : 3 * auxCount + 3 * length auxs ≤ b
-    unfolding columns
-    aux-room = let r = sized .aux-room in let w : b ≡ 3 * (length aux / (3 * rows)) = aux-width in omega arith
+    room : 3 * auxCount + 3 * length auxs ≤ b
+    room = aux-room mainCount auxCount m mains auxs challenges rows main aux (ok .valid) (ok .rows-test)
 
-    -- a row that is filled, and those that it reads, lie in the tables
-    inside : (r : ℕ) → r < count → (r * a + rowKind m * a ≤ length main) × (r * b + rowKind m * b ≤ length aux)
-    inside r l =
-        let k = kind-one in
-        let f = sized .kind-fits in
-        let fit : r + rowKind m ≤ rows = omega arith in
-        let part : (n c : ℕ) → rows * c ≤ n → r * c + rowKind m * c ≤ n = λ n c h. let g : (r + rowKind m) * c ≤ rows * c = mul-le-mul-right c fit in let e : (r + rowKind m) * c ≡ r * c + rowKind m * c = add-mul r (rowKind m) c in omega arith in
-        (part (length main) a (mul-div-le (length main) rows), part (length aux) b (mul-div-le (length aux) rows))
+    within : (r : ℕ) → r < count → (r * a + rowKind m * a ≤ length main) × (r * b + rowKind m * b ≤ length aux)
+    within = inside mainCount auxCount m mains auxs challenges rows main aux (ok .valid) (ok .rows-test)
 
-    fill-tame : Tame (rowKind m) kind-one a b (rowFilled mainCount auxCount m mains auxs challenges)
+    cleared : Done (rowKind m) some-row a b (rowCleared mainCount auxCount mains auxs) (clear-tame mainCount auxCount m mains auxs challenges rows main aux (ok .valid) (ok .rows-test)) count (main, aux) given
+    cleared = clears mainCount auxCount m mains auxs challenges rows main aux (ok .valid) (ok .rows-test)
+
+    fill-tame : Tame (rowKind m) some-row a b (rowFilled mainCount auxCount m mains auxs challenges)
     unfolding rowFilled
     fill-tame =
         record {
           main-length = λ w p q. let v = written-main m challenges (w .1) mains mainCount (w .0) in ap length (v .is) ∙ length-sets (w .0) mainCount (v .words) ∙ p;
           aux-length = λ w p q. let v = written-aux m challenges (mainFilled m (w .1) challenges mainCount (w .0) mains) auxs auxCount (w .1) in ap length (v .is) ∙ length-sets (w .1) (3 * auxCount) (v .words) ∙ q;
           main-next = λ w p q. let v = written-main m challenges (w .1) mains mainCount (w .0) in ap (drop a) (v .is) ∙ sets-drop (v .words) (w .0) mainCount a (omega (arith, v .number, sized .main-room));
-          aux-next = λ w p q. let v = written-aux m challenges (mainFilled m (w .1) challenges mainCount (w .0) mains) auxs auxCount (w .1) in ap (drop b) (v .is) ∙ sets-drop (v .words) (w .1) (3 * auxCount) b (omega (arith, v .number, aux-room));
+          aux-next = λ w p q. let v = written-aux m challenges (mainFilled m (w .1) challenges mainCount (w .0) mains) auxs auxCount (w .1) in ap (drop b) (v .is) ∙ sets-drop (v .words) (w .1) (3 * auxCount) b (omega (arith, v .number, room));
         }
 
-    clear-tame : Tame (rowKind m) kind-one a b (rowCleared mainCount auxCount mains auxs)
-    unfolding rowCleared
-    clear-tame =
-        let zeros : List ℕ = replicate (length mains) 0 in
-        let zeros′ : List ℕ = replicate (3 * length auxs) 0 in
-        record {
-          main-length = λ w p q. length-sets (w .0) mainCount zeros ∙ p;
-          aux-length = λ w p q. length-sets (w .1) (3 * auxCount) zeros′ ∙ q;
-          main-next = λ w p q. sets-drop zeros (w .0) mainCount a (omega (arith, length-replicate {A = ℕ} (length mains) 0, sized .main-room));
-          aux-next = λ w p q. sets-drop zeros′ (w .1) (3 * auxCount) b (omega (arith, length-replicate {A = ℕ} (3 * length auxs) 0, aux-room));
-        }
-
-    fills : Done (rowKind m) kind-one a b (rowFilled mainCount auxCount m mains auxs challenges) fill-tame count (main, aux) filled
-    fills = each-done (rowKind m) kind-one a b (rowFilled mainCount auxCount m mains auxs challenges) fill-tame count (main, aux) inside
-
-    clears : Done (rowKind m) kind-one a b (rowCleared mainCount auxCount mains auxs) clear-tame count (main, aux) given
-    clears = each-done (rowKind m) kind-one a b (rowCleared mainCount auxCount mains auxs) clear-tame count (main, aux) inside
+    fills : Done (rowKind m) some-row a b (rowFilled mainCount auxCount m mains auxs challenges) fill-tame count (main, aux) filled
+    fills = each-done (rowKind m) some-row a b (rowFilled mainCount auxCount m mains auxs challenges) fill-tame count (main, aux) within
 
     abbrev rowMain : ℕ → List ℕ
     rowMain r = rowThen (rowKind m) a r main (filled .0)
@@ -223,7 +171,7 @@ module _ (mainCount auxCount : ℕ) (m mains auxs challenges : List ℕ) (rows :
     rowAux r = rowThen (rowKind m) b r aux (filled .1)
 
     wide : (x : ℕ) → x ≤ rowKind m * x
-    wide x = let h : 1 * x ≤ rowKind m * x = mul-le-mul-right x kind-one in omega arith
+    wide = kind-wide m (ok .valid)
 
     then-length : (l u : List ℕ) (s c : ℕ) → length u ≡ length l → s + rowKind m * c ≤ length l → length (take c (drop s l) ++ take (rowKind m * c - c) (drop (s + c) u)) ≡ rowKind m * c
     then-length l u s c e h =
@@ -233,10 +181,10 @@ module _ (mainCount auxCount : ℕ) (m mains auxs challenges : List ℕ) (rows :
     -- its tables are as wide as the rows are
     module _ (r : ℕ) (l : r < count) where
       main-long : length (rowMain r) ≡ rowKind m * a
-      main-long = then-length main (filled .0) (r * a) a (fills .main-same) (inside r l .0)
+      main-long = then-length main (filled .0) (r * a) a (fills .main-same) (within r l .0)
 
       aux-long : length (rowAux r) ≡ rowKind m * b
-      aux-long = then-length aux (filled .1) (r * b) b (fills .aux-same) (inside r l .1)
+      aux-long = then-length aux (filled .1) (r * b) b (fills .aux-same) (within r l .1)
 
       -- so TABLE's tests say the same of them
       record Shares : Type 0 where
@@ -253,7 +201,7 @@ module _ (mainCount auxCount : ℕ) (m mains auxs challenges : List ℕ) (rows :
 
       shares : Shares
       shares =
-          let (s₀, s₁, s₂, s₃) = ⊎-elim (λ e. one-kind (length (rowMain r)) (length (rowAux r)) columns b a (rowKind m) e main-long aux-long aux-width) (λ e. two-kind (length (rowMain r)) (length (rowAux r)) columns b a (rowKind m) e main-long aux-long aux-width) (kinds m (ok .valid)) in
+          let (s₀, s₁, s₂, s₃) = ⊎-elim (λ e. one-kind (length (rowMain r)) (length (rowAux r)) columns b a (rowKind m) e main-long aux-long width) (λ e. two-kind (length (rowMain r)) (length (rowAux r)) columns b a (rowKind m) e main-long aux-long width) (kinds m (ok .valid)) in
           record { main-rest = s₀; main-part = s₁; aux-rest = s₂; aux-part = s₃ }
 
       row-test : badRows (rowKind m) mainCount auxCount m mains auxs (rowMain r) (rowAux r) challenges ≡ false
@@ -267,15 +215,15 @@ module _ (mainCount auxCount : ℕ) (m mains auxs challenges : List ℕ) (rows :
         unfolding rowCleared
         main-row-low =
             let w = wide a in
-            row-low main (given .0) (take (rowKind m * a - a) (drop (r * a + a) (filled .0))) (take (rowKind m * a - a) (drop (r * a + a) (given .0))) (r * a) a (rowKind m * a) mainCount (length mains) (omega (arith, inside r l .0)) (wide a) (sized .main-room)
-            (ok .main-words) (part-low (rowKind m * a - a) (drop (r * a + a) (filled .0)) low-main) (ap (λ (t : List ℕ × List ℕ). t .0) (clears .rows r l))
+            row-low main (given .0) (take (rowKind m * a - a) (drop (r * a + a) (filled .0))) (take (rowKind m * a - a) (drop (r * a + a) (given .0))) (r * a) a (rowKind m * a) mainCount (length mains) (omega (arith, within r l .0)) (wide a) (sized .main-room)
+            (ok .main-words) (part-low (rowKind m * a - a) (drop (r * a + a) (filled .0)) low-main) (ap (λ (t : List ℕ × List ℕ). t .0) (cleared .rows r l))
 
         aux-row-low : Low (3 * auxCount) (3 * auxCount + 3 * length auxs) (rowAux r)
         unfolding rowCleared
         aux-row-low =
             let w = wide b in
-            row-low aux (given .1) (take (rowKind m * b - b) (drop (r * b + b) (filled .1))) (take (rowKind m * b - b) (drop (r * b + b) (given .1))) (r * b) b (rowKind m * b) (3 * auxCount) (3 * length auxs) (omega (arith, inside r l .1)) (wide b) aux-room
-            (ok .aux-words) (part-low (rowKind m * b - b) (drop (r * b + b) (filled .1)) low-aux) (ap (λ (t : List ℕ × List ℕ). t .1) (clears .rows r l))
+            row-low aux (given .1) (take (rowKind m * b - b) (drop (r * b + b) (filled .1))) (take (rowKind m * b - b) (drop (r * b + b) (given .1))) (r * b) b (rowKind m * b) (3 * auxCount) (3 * length auxs) (omega (arith, within r l .1)) (wide b) room
+            (ok .aux-words) (part-low (rowKind m * b - b) (drop (r * b + b) (filled .1)) low-aux) (ap (λ (t : List ℕ × List ℕ). t .1) (cleared .rows r l))
 
         row-accepted : fillCall mainCount auxCount m mains auxs challenges (rowMain r) (rowAux r) ≡ accepted tt (windowOf (rowKind m) a r (filled .0), windowOf (rowKind m) b r (filled .1))
         unfolding fillCall fillOutcome rowCleared
@@ -288,7 +236,7 @@ module _ (mainCount auxCount : ℕ) (m mains auxs challenges : List ℕ) (rows :
             (any-join (sets (rowMain r) mainCount (replicate (length mains) 0) ++ sets (rowAux r) (3 * auxCount) (replicate (3 * length auxs) 0)) challenges
             (any-join (sets (rowMain r) mainCount (replicate (length mains) 0)) (sets (rowAux r) (3 * auxCount) (replicate (3 * length auxs) 0))
             (zeros-low (length mains) mainCount (rowMain r) (omega (arith, main-long, sized .main-room)) main-row-low)
-            (zeros-low (3 * length auxs) (3 * auxCount) (rowAux r) (omega (arith, aux-long, aux-room)) aux-row-low))
+            (zeros-low (3 * length auxs) (3 * auxCount) (rowAux r) (omega (arith, aux-long, room)) aux-row-low))
             (ok .challenge-words))
             ∙ refusal-next 17 (notLowered mainCount auxCount m mains auxs) [] (ok .lowered) ∙ refusal-none)
             ∙ ap (λ (t : List ℕ × List ℕ). accepted tt t) (sym (fills .rows r l))
@@ -314,8 +262,8 @@ module _ (mainCount auxCount : ℕ) (m mains auxs challenges : List ℕ) (rows :
     low-from zero j e =
         let q : j ≡ count = omega arith in
         rw q (
-          rw (fills .main-after ∙ sym (clears .main-after)) (rest-low (count * a) (given .0) (ok .main-words)),
-          rw (fills .aux-after ∙ sym (clears .aux-after)) (rest-low (count * b) (given .1) (ok .aux-words)),
+          rw (fills .main-after ∙ sym (cleared .main-after)) (rest-low (count * a) (given .0) (ok .main-words)),
+          rw (fills .aux-after ∙ sym (cleared .aux-after)) (rest-low (count * b) (given .1) (ok .aux-words)),
         )
     low-from (suc d) j e =
         let (x, y) = low-from d (suc j) (omega arith) in
@@ -326,7 +274,7 @@ module _ (mainCount auxCount : ℕ) (m mains auxs challenges : List ℕ) (rows :
 
     row-is : (r : ℕ) → r + rowKind m ≤ rows → fillCall mainCount auxCount m mains auxs challenges (rowMain r) (rowAux r) ≡ accepted tt (windowOf (rowKind m) a r (filled .0), windowOf (rowKind m) b r (filled .1))
     row-is r h =
-        let k = kind-one in
+        let k = some-row in
         let here : r < count = omega arith in
         let (x, y) = low-from (count - suc r) (suc r) (omega arith) in
         row-accepted r here (rw (suc-mul r a) at x) (rw (suc-mul r b) at y)

@@ -78,7 +78,8 @@ fn is_beyond(m: &[u64], counts: &[u64], c: Columns, i: u64) -> bool
     reads_beyond(c, expression_at(m, i))
 }
 
-fn any_beyond(m: &[u64], counts: &[u64], c: Columns) -> bool
+// A node with a path count that reads beyond the tables.
+pub fn any_beyond(m: &[u64], counts: &[u64], c: Columns) -> bool
     requires { ⌜ Pathed (now m) (now counts) ⌝ }
     ensures { λ r. ⌜ r ≡ any (beyondAt (now (m .entry)) (now (counts .entry)) c) (upTo (used (now (m .entry)))) ⌝ }
 {
@@ -112,7 +113,8 @@ pub(crate) fn bad_table(
     any_beyond(m, counts, c)
 }
 
-fn any_bad(ws: &[u64]) -> bool
+// A word at or above p.
+pub fn any_bad(ws: &[u64]) -> bool
     ensures { λ r. ⌜ r ≡ any badWord (now (ws .entry)) ⌝ }
 {
     let mut k = 0;

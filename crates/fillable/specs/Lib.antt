@@ -1,0 +1,5 @@
+-- What the inner functions ask and give. What the calls answer is the crate filling.
+pub mod Listing
+pub mod Columned
+pub mod Given
+pub mod Beside

@@ -1,0 +1,3 @@
+// The tests of the calls that fill new columns, before a word is written. Their definitions are the crate filling.
+pub mod given;
+pub mod rows;
