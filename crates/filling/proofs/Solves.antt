@@ -27,33 +27,11 @@ use Rattle.filling.specs.Calls.{worth, mainFilled, auxFilled, rowFilled,
 use Rattle.filling.specs.Promise.{newMain, newAux, Zero, Holds, Solves}
 use Rattle.lowering.proofs.ListLaws.{in-left, in-right, in-cases}
 use Rattle.filling.proofs.Values.{Agree, Good, base-lifted, any-split}
-use Rattle.filling.proofs.Settled.{SettledMain, SettledAux, Listed, Vanishing, mains-head, auxs-head, fewer-good, one-main, one-aux, zero-main, zero-aux, main-zero, aux-zero}
+use Rattle.filling.proofs.Settled.{SettledMain, SettledAux, Listed, Vanishing, fewer-good, one-main, one-aux, zero-main, zero-aux, main-zero, aux-zero}
 use Rattle.filling.proofs.Tables.{sets-before, sets-after, sets-part, sets-next, tables-agree, tables-good, any-low, low-any, any-join}
-use Rattle.filling.proofs.Fills.{Written, written-main, written-aux, aux-agrees, settled-main, settled-aux, low-main, low-aux}
+use Rattle.filling.proofs.Fills.{Written, written-main, written-aux, low-main, low-aux}
+use Rattle.filling.proofs.Holds.{Fitting, settled-mains, settled-auxs, row-holds}
 use Rattle.filling.proofs.Accepts.{Passed, passed, main-room, main-next, aux-room, aux-next, main-low, aux-low, evaluated, zero-value}
-
--- a column's cell, by its place in the list
-main-at : (b : ℕ) (m : List ℕ) (s : Assignment) (qs : List ℕ) (c : ℕ) → mainsWrong b m c qs ≡ false → SettledMain s m c qs → (k : ℕ) → k < length qs
-    → (e : ℕ) × (expressionOf m (Main (c + k)) (getD qs k 0) ≡ some e) × (lift (s .main (c + k)) ≡ value s (tree m e))
-main-at b m s [] c h x k l = absurd (omega arith)
-main-at b m s (q ∷ qs) c h (x, xs) zero l =
-    let (right, rest) = mains-head b m c q qs h in
-    let here : c + 0 ≡ c = omega arith in
-    rw here (right .e, right .is, ap lift (x ∙ ap (λ (o : Option ℕ). worth s m o .c0) (right .is)) ∙ sym (base-lifted s (tree m (right .e)) (right .base)))
-main-at b m s (q ∷ qs) c h (x, xs) (suc k) l =
-    let next : c + suc k ≡ suc c + k = omega arith in
-    rw next (main-at b m s qs (suc c) (mains-head b m c q qs h .1) xs k (omega arith))
-
-aux-at : (a : ℕ) (m : List ℕ) (s : Assignment) (qs : List ℕ) (c : ℕ) → auxsWrong a m c qs ≡ false → SettledAux s m c qs → (k : ℕ) → k < length qs
-    → (e : ℕ) × (expressionOf m (Aux (c + k)) (getD qs k 0) ≡ some e) × (s .aux (c + k) ≡ value s (tree m e))
-aux-at a m s [] c h x k l = absurd (omega arith)
-aux-at a m s (q ∷ qs) c h (x, xs) zero l =
-    let (right, rest) = auxs-head a m c q qs h in
-    let here : c + 0 ≡ c = omega arith in
-    rw here (right .e, right .is, x ∙ ap (worth s m) (right .is))
-aux-at a m s (q ∷ qs) c h (x, xs) (suc k) l =
-    let next : c + suc k ≡ suc c + k = omega arith in
-    rw next (aux-at a m s qs (suc c) (auxs-head a m c q qs h .1) xs k (omega arith))
 
 -- a list has an element, or is empty
 some-id : (l : List ℕ) → (l ≡ []) ⊎ ((q : ℕ) × In q l)
@@ -103,9 +81,6 @@ cells : (main aux challenges : List ℕ) → (assigned main aux challenges .main
 unfolding assigned
 cells main aux challenges = (refl, refl)
 
-agree-self : (m : List ℕ) (a b : ℕ) (s : Assignment) → Agree m a b s s
-agree-self m a b s = record { main = λ c l. refl; aux = λ c l. refl; nextMain = λ d c. refl; nextAux = λ d c. refl; challenges = λ k. refl }
-
 module _ (mainCount auxCount : ℕ) (m mains auxs challenges main aux : List ℕ) (ok : Passed mainCount auxCount m mains auxs challenges main aux) where
   mainEnd : ℕ
   mainEnd = mainCount + length mains
@@ -151,16 +126,17 @@ module _ (mainCount auxCount : ℕ) (m mains auxs challenges main aux : List ℕ
   final : Assignment
   final = assigned after afterAux challenges
 
+  fit : Fitting mainCount auxCount m mains auxs challenges main aux
+  fit = record { valid = ok .valid; main-ids = ids-main; aux-ids = ids-aux; mains-right = ok .mains-right; auxs-right = ok .auxs-right; main-room = roomMain; main-next = nextMain; aux-room = roomAux; aux-next = nextAux }
+
   -- the filled tables are settled
   settledMain : SettledMain final m mainCount mains
-  unfolding after final mainEnd
-  settledMain =
-      settled-main m challenges (ok .valid) auxCount aux mains mainCount main ids-main (ok .mains-right) roomMain nextMain final
-      (aux-agrees m challenges mainEnd after aux auxCount (3 * length auxs) afterAux w-aux nextAux)
+  unfolding rowFilled after afterAux final
+  settledMain = settled-mains mainCount auxCount m mains auxs challenges main aux fit
 
   settledAux : SettledAux final m auxCount auxs
-  unfolding afterAux final
-  settledAux = settled-aux m challenges (ok .valid) (mainCount + length mains) after auxs auxCount aux ids-aux (ok .auxs-right) roomAux nextAux final (agree-self m _ _ final)
+  unfolding rowFilled after afterAux final
+  settledAux = settled-auxs mainCount auxCount m mains auxs challenges main aux fit
 
   -- their words are elements of the field
   lowMain : (i : ℕ) → getD after i 0 < p
@@ -268,8 +244,8 @@ module _ (mainCount auxCount : ℕ) (m mains auxs challenges main aux : List ℕ
 
   -- each new cell holds its expression's value
   holds : Holds mainCount auxCount m mains auxs challenges after afterAux
-  unfolding final assigned
-  holds = record { main-cells = main-at auxCount m final mains mainCount (ok .mains-right) settledMain; aux-cells = aux-at (mainCount + length mains) m final auxs auxCount (ok .auxs-right) settledAux }
+  unfolding rowFilled after afterAux
+  holds = row-holds mainCount auxCount m mains auxs challenges main aux fit
 
   solved : Solves mainCount auxCount m mains auxs challenges main aux after afterAux
   solved =
