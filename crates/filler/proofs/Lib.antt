@@ -2,3 +2,5 @@
 pub mod Runs
 pub mod Instructions
 pub mod Plans
+pub mod Stores
+pub mod Rowings

@@ -2,3 +2,4 @@
 pub mod Running
 pub mod Planning
 pub mod Ordering
+pub mod Rowing

@@ -11,9 +11,8 @@ ghost use Prim.Native.Nat.{ℕ, _+_, _-_, _*_, _<_, _≤_};
 ghost use lib.ListN.{length};
 ghost use lib.Seq.{sets};
 ghost use Rattle.circuit.specs.Rank.{at};
-ghost use Rattle.filling.specs.Calls.{atRow};
 ghost use Rattle.filler.specs.Running.{ran};
-ghost use Rattle.filler.specs.Rowing.{wordsFor, tripleFor, triplesFor, rowRun, window, Rowed};
+ghost use Rattle.filler.specs.Rowing.{wordsFor, tripleFor, triplesFor, window, Storing, StoringWide, Rowed, RowDone};
 
 // Stores the words of the first so many targets.
 fn store_words(part: &mut [u64], targets: &[u64], many: u64, words: &[u64])
@@ -94,4 +93,78 @@ fn work_out(
         words,
         triples,
     );
+}
+
+// Row r of the main table, from the old columns' count to its end, is lent on.
+fn store_main(main: &mut [u64], s: Shape, r: u64, targets: &[u64], words: &[u64])
+    requires { ⌜ Storing s r (now main) (now targets) (now words) ⌝ }
+    ensures { λ u. ⌜ now (main .exit) ≡ sets (now (main .entry)) (r * s .row + s .main) (wordsFor (now (words .entry)) (now (targets .entry)) (s .fresh)) ⌝ }
+{
+    let row = s.row as usize;
+    let start = (r as usize) * row;
+    let from = start + (s.main as usize);
+    let end = start + row;
+    store_words(&mut main[from..end], targets, s.fresh, words);
+}
+
+// Row r of the auxiliary table likewise, three words a column.
+fn store_aux(
+    aux: &mut [u64],
+    s: Shape,
+    r: u64,
+    targets: &[u64],
+    bases: &[u64],
+    words: &[u64],
+    triples: &[u64],
+)
+    requires { ⌜ StoringWide s r (now aux) (now targets) (now bases) (now words) (now triples) ⌝ }
+    ensures { λ u. ⌜ now (aux .exit) ≡ sets (now (aux .entry)) (r * (3 * s .wide) + 3 * s .aux) (triplesFor (now (bases .entry)) (now (words .entry), now (triples .entry)) (now (targets .entry)) (s .fresh) (s .items - s .fresh)) ⌝ }
+{
+    let wide = 3 * (s.wide as usize);
+    let start = (r as usize) * wide;
+    let from = start + 3 * (s.aux as usize);
+    let end = start + wide;
+    store_triples(
+        &mut aux[from..end],
+        targets,
+        s.fresh,
+        s.items - s.fresh,
+        bases,
+        words,
+        triples,
+    );
+}
+
+// Fills row r. Reading is done when writing begins: two parts of one table need not be lent at once.
+fn fill_row(
+    plan: &[u64],
+    many: u64,
+    targets: &[u64],
+    bases: &[u64],
+    s: Shape,
+    kind: u64,
+    r: u64,
+    main: &mut [u64],
+    aux: &mut [u64],
+    words: &mut [u64],
+    triples: &mut [u64],
+)
+    requires { ⌜ Rowed s kind r many (now plan) (now targets) (now bases) (now main) (now aux) (now words) (now triples) ⌝ }
+    ensures { λ u. ⌜ RowDone s kind r many (now (plan .entry)) (now (targets .entry)) (now (bases .entry)) (now (main .entry)) (now (aux .entry)) (now (words .entry)) (now (triples .entry)) (now (main .exit)) (now (aux .exit)) (now (words .exit)) (now (triples .exit)) ⌝ }
+{
+    work_out(
+        plan,
+        many,
+        targets,
+        bases,
+        s,
+        kind,
+        r,
+        main,
+        aux,
+        words,
+        triples,
+    );
+    store_main(main, s, r, targets, words);
+    store_aux(aux, s, r, targets, bases, words, triples);
 }
