@@ -15,7 +15,7 @@ use Rattle.circuit.specs.Walk.{finished}
 use Rattle.layout.proofs.Tests.{last-or, below-or}
 
 module _ (rank : List ℕ) (n : ℕ) where
-  finished-le : (k : ℕ) → finished rank n k ≤ k
+  pub finished-le : (k : ℕ) → finished rank n k ≤ k
   unfolding finished
   finished-le zero = omega arith
   finished-le (suc k) =

@@ -2,4 +2,5 @@
 pub mod Running
 pub mod Planning
 pub mod Ordering
+pub mod Ranking
 pub mod Rowing
