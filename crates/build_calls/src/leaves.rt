@@ -7,12 +7,12 @@ use circuit::place::make;
 use circuit::place::node_at;
 use circuit::place::words_of;
 use classes::find::Place;
+use classes::table::same_words;
 use layout::node::Expression;
 use layout::refusal::FULL;
 ghost use mathlib.Core.Path.{_≡_};
 ghost use Prim.Native.Nat.{_+_, _≤_};
 ghost use lib.ListN.{length};
-ghost use Rattle.layout.specs.Lists.{sameWords};
 ghost use Rattle.layout.specs.Words.{offset};
 ghost use Rattle.classes.specs.Table.{listed};
 ghost use Rattle.classes.specs.Find.{placed};
@@ -20,21 +20,6 @@ ghost use Rattle.building.specs.Building.{find, findOrMake};
 ghost use Rattle.building.specs.Told.{toldId};
 ghost use Rattle.build_calls.specs.Answers.{ending};
 ghost use Rattle.build_calls.specs.Leaves.{hasWords, Leafy};
-
-fn same_words(v: FourWords, w: FourWords) -> bool
-    ensures { λ r. ⌜ r ≡ sameWords (listed v) (listed w) ⌝ }
-{
-    if v.kind != w.kind {
-        return false;
-    }
-    if v.first != w.first {
-        return false;
-    }
-    if v.second != w.second {
-        return false;
-    }
-    v.third == w.third
-}
 
 // Whether node i is registered and has these words.
 fn has_words(m: &[u64], i: u64, w: FourWords) -> bool

@@ -31,6 +31,22 @@ fn bucket(w: FourWords) -> u64
         % BUCKETS
 }
 
+// Whether two expressions, or two keys, have the same words.
+pub fn same_words(v: FourWords, w: FourWords) -> bool
+    ensures { λ r. ⌜ r ≡ sameWords (listed v) (listed w) ⌝ }
+{
+    if v.kind != w.kind {
+        return false;
+    }
+    if v.first != w.first {
+        return false;
+    }
+    if v.second != w.second {
+        return false;
+    }
+    v.third == w.third
+}
+
 // Whether w is the key of number v.
 fn is_key(table: &[u64], v: u64, w: FourWords) -> bool
     requires { ⌜ place v + 5 ≤ length (now table) ⌝ }

@@ -3,3 +3,6 @@ pub mod Listing
 pub mod Columned
 pub mod Given
 pub mod Beside
+pub mod Forms
+pub mod Reaching
+pub mod Targets

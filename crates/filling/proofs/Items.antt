@@ -26,11 +26,11 @@ use Rattle.layout.proofs.Trees.{tree-fixed}
 use Rattle.reading.specs.Readings.{Assignment, isBase, inputValue, value}
 use Rattle.filling.specs.Constraints.{minusTimes, isInput, columnPlus, expressionOf}
 
-no : {A : Type 0} → _≡_ {A = ℕ} 0 1 → A
+pub no : {A : Type 0} → _≡_ {A = ℕ} 0 1 → A
 no h = absurd (omega arith)
 
 -- one test out of an if
-by-if : {A : Type 0} (b : Bool) (x y : Option ℕ) (e : ℕ) → (if b then x else y) ≡ some e → (b ≡ true → x ≡ some e → A) → (b ≡ false → y ≡ some e → A) → A
+pub by-if : {A : Type 0} (b : Bool) (x y : Option ℕ) (e : ℕ) → (if b then x else y) ≡ some e → (b ≡ true → x ≡ some e → A) → (b ≡ false → y ≡ some e → A) → A
 by-if true x y e h f g = f refl h
 by-if false x y e h f g = g refl h
 

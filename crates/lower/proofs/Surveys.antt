@@ -17,10 +17,9 @@ use Rattle.layout.proofs.Tests.{is-false}
 use Rattle.layout.proofs.Lists.{clash, upTo-length}
 use Rattle.paths.specs.Counting.{PathCounts, Countable}
 use Rattle.paths.proofs.Below.{any-some}
-use Rattle.paths.proofs.Counts.{valid-top}
 use Rattle.reading.specs.Readings.{isBase}
 use Rattle.read.specs.Tables.{Filled, Ranked}
-use Rattle.read.specs.Degrees.{degreeTo, Ordered}
+use Rattle.read.specs.Degrees.{degreeTo}
 use Rattle.lowering.specs.Lowering.{tooHigh}
 use Rattle.lower.specs.Tables.{Degrees, aboveIn, isHighIn, highIn, Listed, bestIn}
 use Rattle.lower.specs.Survey.{Surveyed, Occurring, Choosable, chosenNext, Picked}
@@ -30,9 +29,6 @@ use Rattle.lower.proofs.Readings.{high-is, best-is, too-high-is, small-
 
 ranked-of : (m order rank : List ℕ) → notCircuit m ≡ false → Sorted m order rank → Ranked m rank
 ranked-of m order rank valid s = record { valid = valid; left-first = s .left-first; right-first = s .right-first }
-
-pub orderly : (m order rank table : List ℕ) → notCircuit m ≡ false → Sorted m order rank → 4096 ≤ length order → 4096 ≤ length table → Ordered m order rank table
-orderly m order rank table valid s o room = let t = valid-top m valid in record { valid = valid; sorted = s; order-room = omega arith; room = omega arith }
 
 pub degrees-told : (m degrees : List ℕ) → Filled (used m) (at degrees) (degreeTo m) → Degrees m degrees
 unfolding degreeTo

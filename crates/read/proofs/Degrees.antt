@@ -1,5 +1,5 @@
 -- Degrees under the cap: what is not told apart does not matter to a sum or a product. Assumes nothing.
-use Prim.Native.Nat.{ℕ, zero, suc, _+_, _-_, _≤_, min}
+use Prim.Native.Nat.{ℕ, zero, suc, _+_, _-_, _<_, _≤_, min}
 use mathlib.Core.Path.{_≡_, refl, sym, ap, _∙_}
 use mathlib.Core.Logic.{_≢_}
 use mathlib.Core.Bool.{Bool, true, false}
@@ -14,9 +14,10 @@ use Rattle.layout.specs.Words.{used, expressionAt}
 use Rattle.layout.specs.Lists.{if_then_else_}
 use Rattle.layout.specs.Tree.{Leaf, baseLeaf, extensionLeaf, challengeLeaf, inputLeaf, Tree, branch}
 use Rattle.reading.specs.Readings.{leafDegree⁺, productDegree⁺, degree⁺, signed}
-use Rattle.read.specs.Tables.{unknown, Filled, Right, itself}
+use Rattle.read.specs.declared.step.Step.the-variants.{Stay}
+use Rattle.read.specs.Tables.{unknown, operandsOf, Filled, Right, itself}
 use Rattle.read.specs.Degrees.{top, degreeTo, degreeEntry, degreeOver, degreeJoin}
-use Rattle.read.proofs.Tables.{Folds, Joined, answer-two, leaves-right}
+use Rattle.read.proofs.Tables.{Folds, Joined, answer-two, answer-leaf, leaves-right}
 
 pub product-left : (a b : ℕ) → a ≡ 0 → productDegree⁺ a b ≡ 0
 product-left a b e = rw e
@@ -79,6 +80,10 @@ module _ (m : List ℕ) (valid : notCircuit m ≡ false) where
   pub degree-two : Joined m degreeJoin (degreeTo m)
   unfolding degreeTo
   degree-two i h o l r e = answer-two (λ t. min top (degree⁺ t)) leafDegree⁺ degreeJoin degree-folds m valid i h o l r e
+
+  pub degree-leaf : (i : ℕ) → i < used m → operandsOf (expressionAt m i) ≡ Stay → degreeEntry (expressionAt m i) ≡ degreeTo m i
+  unfolding degreeTo degreeEntry
+  degree-leaf i h s = answer-leaf (λ t. min top (degree⁺ t)) leafDegree⁺ degreeJoin degree-folds m valid i h unknown s
 
   pub degree-leaves : (entry : ℕ → ℕ) → Filled (used m) entry (λ j. degreeEntry (expressionAt m j)) → Right itself m entry (degreeTo m)
   unfolding degreeTo degreeEntry

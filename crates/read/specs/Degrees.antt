@@ -8,10 +8,9 @@ use lib.Dec.{ltb, eqb}
 use Rattle.layout.specs.declared.node.Op.{Op}
 use Rattle.layout.specs.declared.node.Op.the-variants.{Add, Multiply}
 use Rattle.layout.specs.declared.node.Expression.{Expression}
-use Rattle.layout.specs.declared.node.Expression.the-variants.{Operation}
 use Rattle.layout.specs.Words.{used, expressionAt}
 use Rattle.layout.specs.NotCircuit.{notCircuit}
-use Rattle.circuit.specs.Rank.{at, Sorted}
+use Rattle.circuit.specs.Rank.{at}
 use Rattle.layout.specs.Tree.{tree}
 use Rattle.reading.specs.Readings.{leafDegree⁺, productDegree⁺, degree⁺}
 use Rattle.read.specs.Tables.{unknown, leafEntry}
@@ -52,17 +51,3 @@ pub record Counted (m counts table : List ℕ) : Type 0 where
 -- each root has an entry
 pub record Rows (roots table : List ℕ) : Type 0 where
   pub below : (k : ℕ) → k < length roots → at roots k < length table
-
--- a circuit with its nodes in order, and room for a degree of each
-pub record Ordered (m order rank table : List ℕ) : Type 0 where
-  pub valid : notCircuit m ≡ false
-  pub sorted : Sorted m order rank
-  pub order-room : used m ≤ length order
-  pub room : used m ≤ length table
-
--- node i, whose operands have their degrees
-pub record Joinable (m table : List ℕ) (i : ℕ) : Type 0 where
-  pub valid : notCircuit m ≡ false
-  pub here : i < used m
-  pub room : used m ≤ length table
-  pub operands : (o : Op) (l r : ℕ) → expressionAt m i ≡ Operation o l r → (at table l ≡ degreeTo m l) × (at table r ≡ degreeTo m r)

@@ -25,8 +25,9 @@ ghost use Rattle.layout.specs.Lists.{any, upTo};
 ghost use Rattle.reading.specs.Readings.{signed};
 ghost use Rattle.reading.specs.Calls.{degreeCall, highestCall};
 ghost use Rattle.reading.specs.Answers.{toldDegree};
+ghost use Rattle.read.specs.Passes.{Ordered, Joinable};
 ghost use Rattle.read.specs.Rooted.{Rooted};
-ghost use Rattle.read.specs.Degrees.{overAt, Counted, Rows, Ordered, Joinable, top, degreeTo, degreeEntry, degreeStart, degreeJoin};
+ghost use Rattle.read.specs.Degrees.{overAt, Counted, Rows, top, degreeTo, degreeEntry, degreeStart, degreeJoin};
 
 // One higher than the least degree over the bound, 2,147,483,647: a higher one is not told apart from it.
 const TOP: u64 = 2147483649;
@@ -126,7 +127,7 @@ pub(crate) fn degrees(m: &[u64], rank: &[u64], table: &mut [u64])
 
 // The degree of node i, from its operands'.
 fn degree_at(m: &[u64], table: &[u64], i: u64) -> u64
-    requires { ⌜ Joinable (now m) (now table) i ⌝ }
+    requires { ⌜ Joinable (degreeTo (now m)) (now m) (now table) i ⌝ }
     ensures { λ r. ⌜ r ≡ degreeTo (now (m .entry)) i ⌝ }
 {
     let e = expression_at(m, i);

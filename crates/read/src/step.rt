@@ -18,7 +18,7 @@ pub enum Step {
 }
 
 // An operation's two operands.
-pub(crate) fn operands_of(e: Expression) -> Step
+pub fn operands_of(e: Expression) -> Step
     ensures { λ r. ⌜ r ≡ operandsOf e ⌝ }
 {
     match e {

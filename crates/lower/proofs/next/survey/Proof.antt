@@ -1,6 +1,7 @@
 use borrow.Author.Needs.{needs}
 use native.Mathlib.Omega.{arith}
-use Rattle.lower.proofs.Surveys.{orderly, degrees-told}
+use Rattle.lower.proofs.Surveys.{degrees-told}
+use Rattle.read.proofs.Along.{orderly}
 use Rattle.lower.proofs.next.survey.Statement.{statement}
 use Rattle.lower.proofs.next.survey.Tie as tie
 

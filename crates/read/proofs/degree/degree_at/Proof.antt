@@ -1,5 +1,6 @@
-use Rattle.read.proofs.Along.{degree-leaf, operands-below, degree-joined}
-use Rattle.read.specs.Degrees.{degreeEntry}
+use Rattle.read.proofs.Along.{operands-below, answer-joined}
+use Rattle.read.proofs.Degrees.{degree-two, degree-leaf}
+use Rattle.read.specs.Degrees.{degreeEntry, degreeJoin}
 use Rattle.read.specs.Tables.{operandsOf}
 use Rattle.paths.proofs.Counts.{valid-top}
 use Rattle.layout.proofs.Valid.{valid-fits}
@@ -63,13 +64,13 @@ returns : tie.Need-returns
 returns c =
     let v = c .before .before .before .before .before .before .before .pre in
     let e = sym (c .before .before .before .operands-of .ensures ∙ ap operandsOf (c .before .before .before .before .expression-at .ensures)) ∙ c .before .enum-told .given .1 in
-    c .leaf-degree .ensures ∙ ap degreeEntry (c .before .before .before .before .expression-at .ensures) ∙ degree-leaf v e
+    c .leaf-degree .ensures ∙ ap degreeEntry (c .before .before .before .before .expression-at .ensures) ∙ degree-leaf _ (v .valid) _ (v .here) e
 
 returns-2 : tie.Need-returns-2
 returns-2 c =
     let v = c .before .before .before .before .before .before .before .before .before .before .pre in
     let e = sym (c .before .before .before .before .before .before .operands-of .ensures ∙ ap operandsOf (c .before .before .before .before .before .before .before .expression-at .ensures)) ∙ c .before .before .before .before .s .given .1 in
-    c .degree-over .ensures ∙ degree-joined v e
+    c .degree-over .ensures ∙ answer-joined v e degreeJoin (degree-two _ (v .valid))
 
 pub degree-at-spec : {M : Type 1} → statement M
 degree-at-spec =

@@ -1,6 +1,6 @@
 use Rattle.classes.proofs.Words.{word-differs, word-agrees, word-last}
-use Rattle.build_calls.proofs.leaves.same_words.Statement.{statement}
-use Rattle.build_calls.proofs.leaves.same_words.Tie as tie
+use Rattle.classes.proofs.table.same_words.Statement.{statement}
+use Rattle.classes.proofs.table.same_words.Tie as tie
 
 returns : tie.Need-returns
 returns c = word-differs _ _ _ _ (c .if1 .taken)
