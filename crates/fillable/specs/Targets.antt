@@ -10,7 +10,7 @@ use Rattle.layout.specs.declared.node.Position.the-variants.{Main, Aux}
 use Rattle.layout.specs.Lists.{if_then_else_}
 use Rattle.layout.specs.Words.{used}
 use Rattle.layout.specs.Tree.{tree}
-use Rattle.layout.specs.NotCircuit.{notCircuit}
+use Rattle.layout.specs.NotCircuit.{notCircuit, badId}
 use Rattle.circuit.specs.Rank.{at}
 use Rattle.reading.specs.Readings.{isBase}
 use Rattle.read.specs.Tables.{Filled}

@@ -215,6 +215,7 @@ module _ (s : Shape) (c : ℕ) (m targets order rank : List ℕ) (done : ℕ) (t
         right-first = x .walking .right-first;
         item-below = λ i k l h e. item-filled s c (s .items) (expressionAt m i) (x .reads i l h) k e;
         item-first = x .item-first;
+        item-fresh = λ i k l h e n. base-fresh s c m (t .valid) i l (s .items) k (x .reads i l h) e n;
         item-base = λ i k l h e n. t .main-base k (base-fresh s c m (t .valid) i l (s .items) k (x .reads i l h) e n);
         word-in = λ i k l h e. word-within s c m (t .valid) i l k (inside-row s c (s .items) (expressionAt m i) (x .reads i l h)) (omega arith) e;
         wide-in = λ i k l h e. wide-within s c m (t .valid) i l k (inside-row s c (s .items) (expressionAt m i) (x .reads i l h)) (omega arith) e;
