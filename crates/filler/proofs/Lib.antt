@@ -6,3 +6,6 @@ pub mod Ranks
 pub mod Plans
 pub mod Stores
 pub mod Rowings
+pub mod Says
+pub mod Targeting
+pub mod Prepares

@@ -1,14 +1,17 @@
 -- Words stored one after the other, in a part of a table that is lent on. Assumes nothing.
 use Prim.Native.Nat.{ℕ, zero, suc, _+_, _-_, _*_, _<_, _≤_}
 use mathlib.Core.Path.{_≡_, refl, sym, ap, _∙_}
+use mathlib.Core.Logic.{⊎-elim}
 use mathlib.Core.List.{List, [], _∷_, _++_}
 use native.Mathlib.Numerals.{add-one}
 use native.Mathlib.Omega.{arith}
-use lib.ListN.{length, getD, set, take, drop, length-set, length-append, take-append-drop, length-take, length-drop}
-use lib.Seq.{sets, sets-eq, length-sets, set-append-left, length-take-le, drop-drop}
+use lib.ListN.{length, getD, set, take, drop, length-set, length-append, take-append-drop, length-take, length-drop, List·getD-append}
+use lib.Seq.{sets, sets-eq, length-sets, set-append-left, length-take-le, drop-drop, getD-append-add}
 use borrow.Rule.Slice.PartMut.{midOf, postOf, putMid}
 use Rattle.arithmetic.specs.declared.Triple.{Triple}
+use Rattle.layout.proofs.Tests.{last-or}
 use Rattle.circuit.specs.Rank.{at}
+use Rattle.reading.specs.Calls.{tripleAt}
 use Rattle.read.specs.Values.{putTriple}
 use Rattle.filler.specs.Running.{Values}
 use Rattle.filler.specs.Rowing.{wordsFor, tripleFor, triplesFor}
@@ -90,3 +93,42 @@ module _ (bases : List ℕ) (v : Values) (targets : List ℕ) (from : ℕ) where
       let two : 3 * n + 2 ≡ suc (suc (3 * n)) = omega arith in
       let more : suc n ≡ n + 1 = omega arith in
       rw (one, two) (sym (sets-more (triplesFor bases v targets from n) (x .c0 ∷ x .c1 ∷ x .c2 ∷ []) l 0 (3 * n) (omega (arith, triples-length n)))) ∙ ap (λ (k : ℕ). sets l 0 (triplesFor bases v targets from k)) more
+
+-- read back, word by word and triple by triple
+pub words-at : (words targets : List ℕ) (n k : ℕ) → k < n → getD (wordsFor words targets n) k 0 ≡ at words (at targets k)
+unfolding wordsFor
+words-at words targets zero k h = absurd (omega arith)
+words-at words targets (suc n) k h =
+    let long : length (wordsFor words targets n) ≡ n = words-length words targets n in
+    ⊎-elim
+    (λ e. let p : k ≡ length (wordsFor words targets n) + 0 = omega arith in ap (λ (j : ℕ). getD (wordsFor words targets n ++ (at words (at targets n) ∷ [])) j 0) p ∙ getD-append-add (wordsFor words targets n) (at words (at targets n) ∷ []) 0 0 ∙ ap (λ (j : ℕ). at words (at targets j)) (sym e))
+    (λ l. List·getD-append (wordsFor words targets n) (at words (at targets n) ∷ []) 0 k (omega arith) ∙ words-at words targets n k l)
+    (last-or k n h)
+
+-- a triple of a list, and of what stands behind it
+front-triple : (xs ys : List ℕ) (k : ℕ) → 3 * k + 2 < length xs → tripleAt (xs ++ ys) k ≡ tripleAt xs k
+unfolding tripleAt
+front-triple xs ys k h = rw (List·getD-append xs ys 0 (3 * k) (omega arith), List·getD-append xs ys 0 (3 * k + 1) (omega arith), List·getD-append xs ys 0 (3 * k + 2) (omega arith))
+
+back-triple : (xs : List ℕ) (x : Triple) (k : ℕ) → length xs ≡ 3 * k → tripleAt (xs ++ (x .c0 ∷ x .c1 ∷ x .c2 ∷ [])) k ≡ x
+unfolding tripleAt
+back-triple xs x k e =
+    let ys : List ℕ = x .c0 ∷ x .c1 ∷ x .c2 ∷ [] in
+    let p₀ : 3 * k ≡ length xs + 0 = omega arith in
+    let p₁ : 3 * k + 1 ≡ length xs + 1 = omega arith in
+    let p₂ : 3 * k + 2 ≡ length xs + 2 = omega arith in
+    let e₀ : getD (xs ++ ys) (3 * k) 0 ≡ x .c0 = ap (λ (j : ℕ). getD (xs ++ ys) j 0) p₀ ∙ getD-append-add xs ys 0 0 in
+    let e₁ : getD (xs ++ ys) (3 * k + 1) 0 ≡ x .c1 = ap (λ (j : ℕ). getD (xs ++ ys) j 0) p₁ ∙ getD-append-add xs ys 1 0 in
+    let e₂ : getD (xs ++ ys) (3 * k + 2) 0 ≡ x .c2 = ap (λ (j : ℕ). getD (xs ++ ys) j 0) p₂ ∙ getD-append-add xs ys 2 0 in
+    λ i. record { c0 = e₀ i; c1 = e₁ i; c2 = e₂ i }
+
+pub triples-at : (bases : List ℕ) (v : Values) (targets : List ℕ) (from n k : ℕ) → k < n → tripleAt (triplesFor bases v targets from n) k ≡ tripleFor bases v (at targets (from + k))
+unfolding triplesFor
+triples-at bases v targets from zero k h = absurd (omega arith)
+triples-at bases v targets from (suc n) k h =
+    let x = tripleFor bases v (at targets (from + n)) in
+    let long : length (triplesFor bases v targets from n) ≡ 3 * n = triples-length bases v targets from n in
+    ⊎-elim
+    (λ e. ap (tripleAt (triplesFor bases v targets from n ++ (x .c0 ∷ x .c1 ∷ x .c2 ∷ []))) e ∙ back-triple (triplesFor bases v targets from n) x n long ∙ ap (λ (j : ℕ). tripleFor bases v (at targets (from + j))) (sym e))
+    (λ l. front-triple (triplesFor bases v targets from n) (x .c0 ∷ x .c1 ∷ x .c2 ∷ []) k (omega arith) ∙ triples-at bases v targets from n k l)
+    (last-or k n h)

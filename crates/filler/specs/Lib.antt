@@ -4,3 +4,4 @@ pub mod Planning
 pub mod Ordering
 pub mod Ranking
 pub mod Rowing
+pub mod Preparing

@@ -89,3 +89,10 @@ pub record RowDone (s : Shape) (kind r many : ℕ) (plan targets bases main aux 
   pub values : (words′, triples′) ≡ ran plan (window kind (s .row) r main) (window kind (3 * s .wide) r aux) many (words, triples)
   pub main-stored : main′ ≡ sets main (r * s .row + s .main) (wordsFor words′ targets (s .fresh))
   pub aux-stored : aux′ ≡ sets aux (r * (3 * s .wide) + 3 * s .aux) (triplesFor bases (words′, triples′) targets (s .fresh) (s .items - s .fresh))
+
+-- a call's plan: it fits rows of this shape, and by it each row is filled as defined
+pub record Prepared (s : Shape) (m mains auxs challenges targets bases plan : List ℕ) (many : ℕ) : Type 0 where
+  pub fits : Fits s (rowKind m) many plan targets bases
+  pub fills : (t : List ℕ × List ℕ) (v : Values) → length (t .0) ≡ rowKind m * s .row → length (t .1) ≡ rowKind m * (3 * s .wide) → Ready m challenges v
+      → rowFilled (s .main) (s .aux) m mains auxs challenges t ≡ rowStored s targets bases (ran plan (t .0) (t .1) many v) t
+  pub ready : (t : List ℕ × List ℕ) (v : Values) → Ready m challenges v → Ready m challenges (ran plan (t .0) (t .1) many v)

@@ -52,7 +52,7 @@ unfolding any
 any-same f g h [] = refl
 any-same f g h (x ∷ xs) = rw (h x, any-same f g h xs)
 
-any-walks : (t : ℕ → Bool) (m qs : List ℕ) → any t (walks m qs) ≡ false → (q : ℕ) → In q qs → any t (walk (tree m q)) ≡ false
+pub any-walks : (t : ℕ → Bool) (m qs : List ℕ) → any t (walks m qs) ≡ false → (q : ℕ) → In q qs → any t (walk (tree m q)) ≡ false
 unfolding walks
 any-walks t m [] h q k = absurd k
 any-walks t m (r ∷ rs) h q (inl e) = rw e (any-split t (walk (tree m r)) (walks m rs) h .0)

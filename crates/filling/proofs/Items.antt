@@ -1,9 +1,9 @@
 -- A listed node that gives its column an expression is worth the column plus -1 times that expression. Assumes nothing.
 use Prim.Native.Nat.{ℕ, _<_}
-use mathlib.Core.Path.{_≡_, refl, _∙_, ap, ap₂}
+use mathlib.Core.Path.{_≡_, refl, sym, _∙_, ap, ap₂}
 use mathlib.Core.Bool.{Bool, true, false}
 use mathlib.Core.Option.{Option, none, some}
-use mathlib.Core.List.{List}
+use mathlib.Core.List.{List, _∷_}
 use native.Mathlib.Omega.{arith}
 use lib.Dec.{eqb}
 use borrow.Author.Tests.{eqb-true}
@@ -16,14 +16,17 @@ use Rattle.layout.specs.declared.node.Op.{Op}
 use Rattle.layout.specs.declared.node.Op.the-variants.{Add, Multiply}
 use Rattle.layout.specs.declared.node.Expression.{Expression}
 use Rattle.layout.specs.declared.node.Expression.the-variants.{Base, Extension, Challenge, Operation, Input}
-use Rattle.layout.specs.Lists.{if_then_else_, sameWords}
+use Rattle.layout.specs.Lists.{if_then_else_, any, sameWords}
 use Rattle.layout.specs.Words.{used, expressionAt, encode, inputKind, column, isConstant, constantIs, apply, isMain}
 use Rattle.layout.specs.Tree.{treeOver, tree}
 use Rattle.layout.specs.NotCircuit.{notCircuit}
+use Rattle.layout.proofs.Tests.{neither}
 use Rattle.layout.proofs.Lists.{clash, and-true, and-both}
 use Rattle.layout.proofs.Valid.{valid-operands}
 use Rattle.layout.proofs.Trees.{tree-fixed}
+use Rattle.walking.specs.Paths.{walk}
 use Rattle.reading.specs.Readings.{Assignment, isBase, inputValue, value}
+use Rattle.filling.proofs.Values.{any-split}
 use Rattle.filling.specs.Constraints.{minusTimes, isInput, columnPlus, expressionOf}
 
 pub no : {A : Type 0} → _≡_ {A = ℕ} 0 1 → A
@@ -75,6 +78,8 @@ same-input (Input x) y h =
 pub record Item (m : List ℕ) (y : Position) (q e : ℕ) : Type 0 where
   pub here : e < used m
   pub worth : (s : Assignment) → value s (tree m q) ≡ plus (inputValue s y) (times (lift minusOne) (value s (tree m e)))
+  -- what no node below it does, none below the expression does
+  pub reads : (t : ℕ → Bool) → any t (walk (tree m q)) ≡ false → any t (walk (tree m e)) ≡ false
   -- it passes the base test where both do
   pub base : isMain y ≡ true → isBase (tree m e) ≡ true → isBase (tree m q) ≡ true
 
@@ -118,9 +123,17 @@ module _ (m : List ℕ) (valid : notCircuit m ≡ false) where
   unfolding value
   operation-value i here o l r e s = ap (value s) (tree-fixed m valid i here ∙ ap (λ (x : Expression). treeOver i x (tree m)) e)
 
+  operation-reads : (i : ℕ) → i < used m → (o : Op) (l r : ℕ) → expressionAt m i ≡ Operation o l r → (t : ℕ → Bool) → any t (walk (tree m i)) ≡ false → (any t (walk (tree m l)) ≡ false) × (any t (walk (tree m r)) ≡ false)
+  unfolding walk any
+  operation-reads i here o l r e t h =
+      let is : tree m i ≡ treeOver i (Operation o l r) (tree m) = tree-fixed m valid i here ∙ ap (λ (x : Expression). treeOver i x (tree m)) e in
+      let (a, b) = any-split t (walk (tree m l)) (i ∷ walk (tree m r)) (rw is at h) in
+      (a, neither (t i) (any t (walk (tree m r))) b .1)
+
   -- -1 times an expression
   minus-value : (i : ℕ) → i < used m → (x : Expression) → expressionAt m i ≡ x → (e : ℕ) → minusTimes m x ≡ some e
       → (e < used m) × ((s : Assignment) → value s (tree m i) ≡ times (lift minusOne) (value s (tree m e))) × (isBase (tree m e) ≡ true → isBase (tree m i) ≡ true)
+      × ((t : ℕ → Bool) → any t (walk (tree m i)) ≡ false → any t (walk (tree m e)) ≡ false)
   minus-value i here (Base w) q e h = no cc
   minus-value i here (Extension x) q e h = no cc
   minus-value i here (Challenge k) q e h = no cc
@@ -131,12 +144,12 @@ module _ (m : List ℕ) (valid : notCircuit m ≡ false) where
       by-if (isConstant minusOne m l) (some r) (if isConstant minusOne m r then some l else none) e h
       (λ k z.
       let eq : r ≡ e = cc in
-      (rw (← eq) hr, λ s. operation-value i here Multiply l r q s ∙ ap₂ times (constant-value minusOne l hl k s) (ap (λ (j : ℕ). value s (tree m j)) eq), λ b. operation-base i here Multiply l r q (constant-base minusOne l hl k) (ap (λ (j : ℕ). isBase (tree m j)) eq ∙ b)))
+      (rw (← eq) hr, λ s. operation-value i here Multiply l r q s ∙ ap₂ times (constant-value minusOne l hl k s) (ap (λ (j : ℕ). value s (tree m j)) eq), λ b. operation-base i here Multiply l r q (constant-base minusOne l hl k) (ap (λ (j : ℕ). isBase (tree m j)) eq ∙ b), λ t n. ap (λ (j : ℕ). any t (walk (tree m j))) (sym eq) ∙ operation-reads i here Multiply l r q t n .1))
       (λ k z.
       by-if (isConstant minusOne m r) (some l) none e z
       (λ k′ z′.
       let eq : l ≡ e = cc in
-      (rw (← eq) hl, λ s. operation-value i here Multiply l r q s ∙ times-comm _ _ ∙ ap₂ times (constant-value minusOne r hr k′ s) (ap (λ (j : ℕ). value s (tree m j)) eq), λ b. operation-base i here Multiply l r q (ap (λ (j : ℕ). isBase (tree m j)) eq ∙ b) (constant-base minusOne r hr k′)))
+      (rw (← eq) hl, λ s. operation-value i here Multiply l r q s ∙ times-comm _ _ ∙ ap₂ times (constant-value minusOne r hr k′ s) (ap (λ (j : ℕ). value s (tree m j)) eq), λ b. operation-base i here Multiply l r q (ap (λ (j : ℕ). isBase (tree m j)) eq ∙ b) (constant-base minusOne r hr k′), λ t n. ap (λ (j : ℕ). any t (walk (tree m j))) (sym eq) ∙ operation-reads i here Multiply l r q t n .0))
       (λ k′ z′. no cc))
 
   -- the column plus that
@@ -150,13 +163,13 @@ module _ (m : List ℕ) (valid : notCircuit m ≡ false) where
       let (hl, hr) = valid-operands m valid i here Add l r q in
       by-if (isInput m y l) (minusTimes m (expressionAt m r)) (if isInput m y r then minusTimes m (expressionAt m l) else none) e h
       (λ k z.
-      let (below, eq, base) = minus-value r hr (expressionAt m r) refl e z in
-      record { here = below; worth = λ s. operation-value i here Add l r q s ∙ ap₂ plus (input-value y l hl k s) (eq s); base = λ a b. operation-base i here Add l r q (input-base y l hl k a) (base b) })
+      let (below, eq, base, reads) = minus-value r hr (expressionAt m r) refl e z in
+      record { here = below; worth = λ s. operation-value i here Add l r q s ∙ ap₂ plus (input-value y l hl k s) (eq s); reads = λ t n. reads t (operation-reads i here Add l r q t n .1); base = λ a b. operation-base i here Add l r q (input-base y l hl k a) (base b) })
       (λ k z.
       by-if (isInput m y r) (minusTimes m (expressionAt m l)) none e z
       (λ k′ z′.
-      let (below, eq, base) = minus-value l hl (expressionAt m l) refl e z′ in
-      record { here = below; worth = λ s. operation-value i here Add l r q s ∙ plus-comm _ _ ∙ ap₂ plus (input-value y r hr k′ s) (eq s); base = λ a b. operation-base i here Add l r q (base b) (input-base y r hr k′ a) })
+      let (below, eq, base, reads) = minus-value l hl (expressionAt m l) refl e z′ in
+      record { here = below; worth = λ s. operation-value i here Add l r q s ∙ plus-comm _ _ ∙ ap₂ plus (input-value y r hr k′ s) (eq s); reads = λ t n. reads t (operation-reads i here Add l r q t n .0); base = λ a b. operation-base i here Add l r q (base b) (input-base y r hr k′ a) })
       (λ k′ z′. no cc))
 
   pub item : (y : Position) (q : ℕ) → q < used m → (e : ℕ) → expressionOf m y q ≡ some e → Item m y q e

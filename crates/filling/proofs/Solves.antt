@@ -39,7 +39,7 @@ some-id [] = inl refl
 some-id (q ∷ l) = inr (q, inl refl)
 
 -- a word that was written, by its place
-sets-at : (vs l : List ℕ) (c k : ℕ) → c + length vs ≤ length l → k < length vs → getD (sets l c vs) (c + k) 0 ≡ getD vs k 0
+pub sets-at : (vs l : List ℕ) (c k : ℕ) → c + length vs ≤ length l → k < length vs → getD (sets l c vs) (c + k) 0 ≡ getD vs k 0
 sets-at vs l c k h g =
     sym (getD-drop c (sets l c vs) k 0) ∙ sym (getD-take (length vs) (drop c (sets l c vs)) k 0 g) ∙ ap (λ (x : List ℕ). getD x k 0) (sets-part vs l c (length vs) refl h)
 
@@ -65,7 +65,7 @@ word-of : (u v : List ℕ) (c : ℕ) → tripleAt u c ≡ tripleAt v c → (getD
 unfolding tripleAt
 word-of u v c h = (ap (λ (x : Triple). x .c0) h, ap (λ (x : Triple). x .c1) h, ap (λ (x : Triple). x .c2) h)
 
-words-of : (u v : List ℕ) (b : ℕ) → ((c : ℕ) → c < b → tripleAt u c ≡ tripleAt v c) → (i : ℕ) → i < 3 * b → getD u i 0 ≡ getD v i 0
+pub words-of : (u v : List ℕ) (b : ℕ) → ((c : ℕ) → c < b → tripleAt u c ≡ tripleAt v c) → (i : ℕ) → i < 3 * b → getD u i 0 ≡ getD v i 0
 words-of u v b h i l =
     let (w0, w1, w2) = word-of u v (i / 3) (h (i / 3) (omega arith)) in
     ⊎-elim
