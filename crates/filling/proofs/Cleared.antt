@@ -6,7 +6,7 @@ use mathlib.Core.Bool.{true, false, _||_}
 use mathlib.Core.List.{List, _++_}
 use native.Mathlib.Nat.{add-mul, mul-comm, mul-assoc, mul-le-mul-right, mul-div-le, mul-div-right, div-add-mod}
 use native.Mathlib.Omega.{arith}
-use lib.ListN.{length, replicate, length-replicate}
+use lib.ListN.{length, take, drop, replicate, length-replicate}
 use lib.Seq.{length-sets}
 use lib.Dec.{ltb, eqb}
 use borrow.Author.Tests.{ltb-false, eqb-true, not-false}
@@ -21,6 +21,7 @@ use Rattle.filling.specs.Calls.{rowCleared, eachRow}
 use Rattle.filling.proofs.Tables.{sets-drop}
 use Rattle.filling.proofs.Accepts.{kinds}
 use Rattle.filling.proofs.Rows.{Tame, Done, each-done}
+use Rattle.filling.proofs.Written.{Writes, front}
 
 -- a circuit reads one row at least
 pub kind-one : (m : List ℕ) → notCircuit m ≡ false → 1 ≤ rowKind m
@@ -106,3 +107,26 @@ module _ (mainCount auxCount : ℕ) (m mains auxs challenges : List ℕ) (rows :
 
     pub clears : Done (rowKind m) (kind-one m valid) a b (rowCleared mainCount auxCount mains auxs) clear-tame count (main, aux) given
     clears = each-done (rowKind m) (kind-one m valid) a b (rowCleared mainCount auxCount mains auxs) clear-tame count (main, aux) inside
+
+    -- so it writes zeros into each row
+    pub cleared-main : Writes a count mainCount (λ r. replicate (length mains) 0) main (given .0)
+    unfolding rowCleared
+    cleared-main =
+        record {
+          last = clears .main-after;
+          rows = λ r l.
+              let w = kind-wide m valid a in
+              front (rowKind m) a r mainCount (given .0) main (replicate (length mains) 0) (take (rowKind m * a - a) (drop (r * a + a) (given .0))) w (omega (arith, inside r l .0))
+              (omega (arith, length-replicate {A = ℕ} (length mains) 0, sized .main-room)) (ap (λ (t : List ℕ × List ℕ). t .0) (clears .rows r l));
+        }
+
+    pub cleared-aux : Writes b count (3 * auxCount) (λ r. replicate (3 * length auxs) 0) aux (given .1)
+    unfolding rowCleared
+    cleared-aux =
+        record {
+          last = clears .aux-after;
+          rows = λ r l.
+              let w = kind-wide m valid b in
+              front (rowKind m) b r (3 * auxCount) (given .1) aux (replicate (3 * length auxs) 0) (take (rowKind m * b - b) (drop (r * b + b) (given .1))) w (omega (arith, inside r l .1))
+              (omega (arith, length-replicate {A = ℕ} (3 * length auxs) 0, aux-room)) (ap (λ (t : List ℕ × List ℕ). t .1) (clears .rows r l));
+        }

@@ -96,17 +96,17 @@ module _ (mainCount auxCount : ℕ) (m mains auxs challenges : List ℕ) (rows :
   abbrev filled : List ℕ × List ℕ
   filled = eachRow (rowKind m) (rowFilled mainCount auxCount m mains auxs challenges) a b count (main, aux)
 
-  record PassedRows : Type 0 where
-    valid : notCircuit m ≡ false
+  pub record PassedRows : Type 0 where
+    pub valid : notCircuit m ≡ false
     ids : badId m (mains ++ auxs) ≡ false
-    rows-test : badRows rows mainCount auxCount m mains auxs main aux challenges ≡ false
+    pub rows-test : badRows rows mainCount auxCount m mains auxs main aux challenges ≡ false
     main-words : any badWord (given .0) ≡ false
     aux-words : any badWord (given .1) ≡ false
     challenge-words : any badWord challenges ≡ false
     lowered : notLowered mainCount auxCount m mains auxs ≡ false
     is : fillRowsCall mainCount auxCount m mains auxs challenges rows main aux .lent ≡ filled
 
-  passed-rows : fillRowsCall mainCount auxCount m mains auxs challenges rows main aux .number ≡ 0 → PassedRows
+  pub passed-rows : fillRowsCall mainCount auxCount m mains auxs challenges rows main aux .number ≡ 0 → PassedRows
   unfolding fillRowsCall fillOutcome allRows
   passed-rows h =
       let all : refusal _ ≡ 0 = sym (outcome-number _ tt _ tt (main, aux)) ∙ h in
@@ -289,13 +289,26 @@ row-by-row mainCount auxCount m mains auxs challenges rows main aux h =
     let ok = passed-rows mainCount auxCount m mains auxs challenges rows main aux h in
     rw (ok .is) (by-row mainCount auxCount m mains auxs challenges rows main aux ok)
 
+-- and the tables keep their lengths
+pub rows-lengths : (mainCount auxCount : ℕ) (m mains auxs challenges : List ℕ) (rows : ℕ) (main aux : List ℕ) → fillRowsCall mainCount auxCount m mains auxs challenges rows main aux .number ≡ 0
+    → (length (fillRowsCall mainCount auxCount m mains auxs challenges rows main aux .lent .0) ≡ length main) × (length (fillRowsCall mainCount auxCount m mains auxs challenges rows main aux .lent .1) ≡ length aux)
+rows-lengths mainCount auxCount m mains auxs challenges rows main aux h =
+    let ok = passed-rows mainCount auxCount m mains auxs challenges rows main aux h in
+    let done = fills mainCount auxCount m mains auxs challenges rows main aux ok in
+    rw (ok .is) (done .main-same, done .aux-same)
+
+-- each row, of tables that are what it left
+pub rows-are : (mainCount auxCount : ℕ) (m mains auxs challenges : List ℕ) (rows : ℕ) (main aux : List ℕ) → fillRowsCall mainCount auxCount m mains auxs challenges rows main aux .number ≡ 0
+    → (main′ aux′ : List ℕ) → fillRowsCall mainCount auxCount m mains auxs challenges rows main aux .lent ≡ (main′, aux′) → RowByRow mainCount auxCount m mains auxs challenges rows main aux main′ aux′
+rows-are mainCount auxCount m mains auxs challenges rows main aux h main′ aux′ e =
+    subst (λ (t : List ℕ × List ℕ). RowByRow mainCount auxCount m mains auxs challenges rows main aux (t .0) (t .1)) e (row-by-row mainCount auxCount m mains auxs challenges rows main aux h)
+
 -- so every row's constraints are zero, and no other words in its new cells make them so
 pub rows-solve : (mainCount auxCount : ℕ) (m mains auxs challenges : List ℕ) (rows : ℕ) (main aux : List ℕ) → fillRowsCall mainCount auxCount m mains auxs challenges rows main aux .number ≡ 0
     → (main′ aux′ : List ℕ) → fillRowsCall mainCount auxCount m mains auxs challenges rows main aux .lent ≡ (main′, aux′) → (r : ℕ) → r + rowKind m ≤ rows
     → Solves mainCount auxCount m mains auxs challenges (rowThen (rowKind m) (length main / rows) r main main′) (rowThen (rowKind m) (length aux / rows) r aux aux′) (windowOf (rowKind m) (length main / rows) r main′) (windowOf (rowKind m) (length aux / rows) r aux′)
 rows-solve mainCount auxCount m mains auxs challenges rows main aux h main′ aux′ e r l =
-    let all : RowByRow mainCount auxCount m mains auxs challenges rows main aux main′ aux′ =
-    subst (λ (t : List ℕ × List ℕ). RowByRow mainCount auxCount m mains auxs challenges rows main aux (t .0) (t .1)) e (row-by-row mainCount auxCount m mains auxs challenges rows main aux h) in
+    let all = rows-are mainCount auxCount m mains auxs challenges rows main aux h main′ aux′ e in
     subst (λ (t : List ℕ × List ℕ). Solves mainCount auxCount m mains auxs challenges (rowThen (rowKind m) (length main / rows) r main main′) (rowThen (rowKind m) (length aux / rows) r aux aux′) (t .0) (t .1))
     (ap (λ (o : Outcome (Unit {0}) (List ℕ × List ℕ)). o .lent) (all .each r l))
     (solves mainCount auxCount m mains auxs challenges _ _ (ap (λ (o : Outcome (Unit {0}) (List ℕ × List ℕ)). o .number) (all .each r l)))

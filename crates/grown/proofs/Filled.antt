@@ -32,7 +32,7 @@ use Rattle.grown.proofs.Evaluates.{evaluates-to}
 use Rattle.grown.proofs.Stores.{words, triples, words-length, triples-words, words-triples, triples-length, words-in, triples-in}
 use Rattle.grown.proofs.Meant.{evaluates-meant, wide-before}
 
-map-in : {A : Type 0} (f g : ℕ → A) (is : List ℕ) → ((i : ℕ) → In i is → f i ≡ g i) → map f is ≡ map g is
+pub map-in : {A : Type 0} (f g : ℕ → A) (is : List ℕ) → ((i : ℕ) → In i is → f i ≡ g i) → map f is ≡ map g is
 map-in f g [] h = refl
 map-in f g (i ∷ is) h = ap₂ _∷_ (h i (inl refl)) (map-in f g is (λ j k. h j (inr k)))
 

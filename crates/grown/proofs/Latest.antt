@@ -4,7 +4,7 @@ use mathlib.Core.Path.{_≡_, refl, sym, ap, _∙_, ap₂}
 use mathlib.Core.Logic.{inl, inr}
 use mathlib.Core.Bool.{Bool, true, false}
 use mathlib.Core.Option.{some}
-use mathlib.Core.List.{List, [], _∷_, _++_, map}
+use mathlib.Core.List.{List, [], _∷_, _++_}
 use native.Mathlib.Omega.{arith}
 use lib.ListN.{length, getD, take, drop, replicate, length-take, length-drop, length-replicate, take-append-drop}
 use lib.Seq.{sets, length-sets}
@@ -53,6 +53,7 @@ use Rattle.grown.proofs.Remains.{Remains, remains}
 use Rattle.grown.proofs.Promised.{promised}
 use Rattle.grown.proofs.Grows.{grown-good}
 use Rattle.grown.proofs.Since.{Kept, since-grown, since-kept}
+use Rattle.grown.proofs.Filled.{map-in}
 use Rattle.grown.proofs.Lowered.{gives, expression-kept, uses-reads, mains-right, auxs-right}
 
 -- a part of a table without a word at or above p has none
@@ -64,10 +65,6 @@ part-low n c l h =
 
 part-length : (n c : ℕ) (l : List ℕ) → c + n ≤ length l → length (take n (drop c l)) ≡ n
 part-length n c l h = omega (arith, length-take n (drop c l), length-drop c l)
-
-map-in : {A : Type 0} (f g : ℕ → A) (xs : List ℕ) → ((x : ℕ) → In x xs → f x ≡ g x) → map f xs ≡ map g xs
-map-in f g [] h = refl
-map-in f g (x ∷ xs) h = ap₂ (λ a b. a ∷ b) (h x (inl refl)) (map-in f g xs (λ y k. h y (inr k)))
 
 -- a test that fails at the end of the list changes nothing
 drop-last : (a b c : Bool) → c ≡ false → refusal ((15, a) ∷ (5, b) ∷ (17, c) ∷ []) ≡ refusal ((15, a) ∷ (5, b) ∷ [])

@@ -35,3 +35,4 @@ pub mod Refusals
 pub mod Since
 pub mod Lowered
 pub mod Latest
+pub mod Trace

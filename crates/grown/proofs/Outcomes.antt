@@ -4,6 +4,8 @@ use Rattle.layout.proofs.Unique.{start-once, read-once, used-once, free-once}
 use Rattle.classes.proofs.Unique.{equal-once}
 use Rattle.building.specs.Calls.{inputCall, challengeCall, baseCall, zeroCall, oneCall, minusOneCall, extensionCall, operationCall, subtractCall, negateCall, sumCall}
 use Rattle.building.proofs.Once.{told-once}
+use Rattle.filling.specs.Calls.{fillCall, fillRowsCall}
+use Rattle.filling.proofs.Unique.{fill-once}
 use Rattle.paths.proofs.Unique.{walk-once, count-once, counts-once}
 use Rattle.read.proofs.Unique.{is-zero-once, is-one-once, is-minus-one-once, base-test-once, degree-once, highest-once, evaluate-once, visible-once}
 use Rattle.lower.proofs.Once.{lower-once}
@@ -42,5 +44,7 @@ determined =
       evaluate = evaluate-once;
       visible = visible-once;
       lower = lower-once;
+      fill = λ mainCount auxCount m mains auxs challenges main aux. fill-once (fillCall mainCount auxCount m mains auxs challenges main aux);
+      fill-rows = λ mainCount auxCount m mains auxs challenges rows main aux. fill-once (fillRowsCall mainCount auxCount m mains auxs challenges rows main aux);
       frame = λ s line answer n k x y a b e f. (ap (λ (o : Framed). o .written) (e ∙ sym f), (ap (λ (o : Framed). o .state) (e ∙ sym f), ap (λ (o : Framed). o .answer) (e ∙ sym f)));
     }

@@ -11,6 +11,7 @@ use Rattle.building.specs.Calls.{building, inputCall, challengeCall, baseCall, 
 use Rattle.walking.specs.Calls.{walkCall, countCall, countsCall}
 use Rattle.reading.specs.Calls.{constantCall, isZeroCall, isOneCall, isMinusOneCall, degreeCall, highestCall, baseTestCall, evaluateCall, visibleCall}
 use Rattle.lowering.specs.Calls.{lowerCall}
+use Rattle.filling.specs.Calls.{fillOutcome, fillCall, fillRowsCall}
 use Rattle.grown.specs.Refusals.{Keeps, Refusals}
 
 -- the one form of every outcome
@@ -23,7 +24,7 @@ keeps tests values after zeros lent = go (refusal tests)
     go (suc n) h = (refl, refl)
 
 pub refusals : Refusals
-unfolding startCall reading readCall usedCall freeCall equalCall building inputCall challengeCall baseCall zeroCall oneCall minusOneCall extensionCall operationCall subtractCall negateCall sumCall walkCall countCall countsCall constantCall isZeroCall isOneCall isMinusOneCall degreeCall highestCall baseTestCall evaluateCall visibleCall lowerCall
+unfolding startCall reading readCall usedCall freeCall equalCall building inputCall challengeCall baseCall zeroCall oneCall minusOneCall extensionCall operationCall subtractCall negateCall sumCall walkCall countCall countsCall constantCall isZeroCall isOneCall isMinusOneCall degreeCall highestCall baseTestCall evaluateCall visibleCall lowerCall fillOutcome fillCall fillRowsCall
 refusals =
     record {
       start = λ m kind. keeps _ _ _ _ _;
@@ -54,4 +55,6 @@ refusals =
       evaluate = λ m i main aux challenges. keeps _ _ _ _ _;
       visible = λ m roots. keeps _ _ _ _ _;
       lower = λ target mainCount auxCount lent. keeps _ _ _ _ _;
+      fill = λ mainCount auxCount m mains auxs challenges main aux. keeps _ _ _ _ _;
+      fill-rows = λ mainCount auxCount m mains auxs challenges rows main aux. keeps _ _ _ _ _;
     }

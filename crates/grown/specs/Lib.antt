@@ -6,6 +6,7 @@ pub mod Promise
 pub mod Order
 pub mod Evaluated
 pub mod Fills
+pub mod Traces
 pub mod Outcomes
 pub mod Examples
 pub mod Refusals

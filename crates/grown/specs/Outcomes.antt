@@ -35,6 +35,9 @@ use Rattle.lowering.specs.declared.Lowered.the-variants as lower-answer
 use Rattle.lowering.specs.Lowering.{Lowering}
 use Rattle.lowering.specs.Calls.{lowerCall}
 use Rattle.lower.specs.Told.{toldLowering}
+use Rattle.filling.specs.declared.Filled.the-variants as fill-answer
+use Rattle.filling.specs.Calls.{fillCall, fillRowsCall}
+use Rattle.filling.specs.Answers.{toldFill}
 use Rattle.framing.specs.States.{State}
 use Rattle.framing.specs.Frames.{framed, frameCall}
 
@@ -82,5 +85,8 @@ pub record Determined : Type 0 where
   pub visible : (m roots : List ℕ) → AnswersOnce toldCount (number-answer.Refused 0) (visibleCall m roots)
   -- lowering
   pub lower : (target mainCount auxCount : ℕ) (lent : Lowering) → Once toldLowering (lower-answer.Refused 0) (lowerCall target mainCount auxCount lent)
+  -- filling
+  pub fill : (mainCount auxCount : ℕ) (m mains auxs challenges main aux : List ℕ) → Once toldFill (fill-answer.Refused 0) (fillCall mainCount auxCount m mains auxs challenges main aux)
+  pub fill-rows : (mainCount auxCount : ℕ) (m mains auxs challenges : List ℕ) (rows : ℕ) (main aux : List ℕ) → Once toldFill (fill-answer.Refused 0) (fillRowsCall mainCount auxCount m mains auxs challenges rows main aux)
   -- a line of the frame language: how many bytes its answer has, all that is kept, and the places lent for the answer
   pub frame : (s : State) (line answer : List ℕ) (n k : ℕ) (x y : State) (a b : List ℕ) → framed n x a ≡ frameCall s line answer → framed k y b ≡ frameCall s line answer → (n ≡ k) × ((x ≡ y) × (a ≡ b))

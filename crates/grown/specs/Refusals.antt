@@ -19,6 +19,7 @@ use Rattle.walking.specs.Calls.{walkCall, countCall, countsCall}
 use Rattle.reading.specs.Calls.{isZeroCall, isOneCall, isMinusOneCall, degreeCall, highestCall, baseTestCall, evaluateCall, visibleCall}
 use Rattle.lowering.specs.Lowering.{Lowering}
 use Rattle.lowering.specs.Calls.{lowerCall}
+use Rattle.filling.specs.Calls.{fillCall, fillRowsCall}
 
 -- a call that is refused answers zeros, and leaves what was lent
 abbrev pub Keeps : {A L : Type 0} → Outcome A L → A → L → Type 0
@@ -53,3 +54,5 @@ pub record Refusals : Type 0 where
   pub evaluate : (m : List ℕ) (i : ℕ) (main aux challenges : List ℕ) → Keeps (evaluateCall m i main aux challenges) (triple 0 0 0) tt
   pub visible : (m roots : List ℕ) → Keeps (visibleCall m roots) 0 tt
   pub lower : (target mainCount auxCount : ℕ) (lent : Lowering) → Keeps (lowerCall target mainCount auxCount lent) (0, 0) lent
+  pub fill : (mainCount auxCount : ℕ) (m mains auxs challenges main aux : List ℕ) → Keeps (fillCall mainCount auxCount m mains auxs challenges main aux) tt (main, aux)
+  pub fill-rows : (mainCount auxCount : ℕ) (m mains auxs challenges : List ℕ) (rows : ℕ) (main aux : List ℕ) → Keeps (fillRowsCall mainCount auxCount m mains auxs challenges rows main aux) tt (main, aux)
