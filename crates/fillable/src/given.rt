@@ -53,7 +53,7 @@ fn bad_table_beside(table: &[u64], rows: u64, from: usize, to: usize, filled: u6
 }
 
 // Of a dual-row circuit the last row is a next row only.
-fn filled_rows(m: &[u64], rows: u64) -> u64
+pub fn filled_rows(m: &[u64], rows: u64) -> u64
     requires { ⌜ (notCircuit (now m) ≡ false) × (rowsRead (now m) ≤ rows) ⌝ }
     ensures { λ r. ⌜ r ≡ suc rows - rowsRead (now (m .entry)) ⌝ }
 {

@@ -9,3 +9,4 @@ pub mod Rowings
 pub mod Says
 pub mod Targeting
 pub mod Prepares
+pub mod Fixes

@@ -21,6 +21,7 @@ use Rattle.circuit.specs.Rank.{at}
 use Rattle.reading.specs.Readings.{Assignment, isBase, inputValue, value}
 use Rattle.reading.specs.Calls.{tripleAt}
 use Rattle.read.specs.Tables.{Filled}
+use Rattle.read.specs.Values.{putTriple}
 use Rattle.read.specs.Bases.{baseBit}
 use Rattle.filler.specs.declared.run.Instruction.{Instruction}
 use Rattle.filler.specs.declared.plan.Shape.{Shape}
@@ -151,3 +152,11 @@ pub record Planned (s : Shape) (m bases targets challenges order rank alias plan
   pub entry-base : (j : ℕ) → j < q → at bases (at alias (at order j)) ≡ at bases (at order j)
   pub stand : (a : Assignment) (main aux : List ℕ) (v : Values) → Says s m targets challenges main aux a → Ready m challenges v
       → (j : ℕ) → j < q → Stands a m (ran plan main aux many v) (at alias (at order j)) (at order j)
+
+-- node i's entry, where its expression is the same in every row
+abbrev pub fixedOne : List ℕ → ℕ → Expression → Values → Values
+fixedOne challenges i (Base w) v = (set (v .0) i w, v .1)
+fixedOne challenges i (Extension x) v = (v .0, putTriple (v .1) i x)
+fixedOne challenges i (Challenge k) v = (v .0, putTriple (v .1) i (tripleAt challenges k))
+fixedOne challenges i (Operation o l r) v = v
+fixedOne challenges i (Input q) v = v

@@ -86,7 +86,7 @@ fn base_of(m: &[u64], rank: &[u64], table: &mut [u64], i: u64) -> u64
 }
 
 // The base test of each node, by ascending ids: in a grown circuit each node's operands are then known, and the stack stays flat.
-pub(crate) fn bases(m: &[u64], rank: &[u64], table: &mut [u64])
+pub fn bases(m: &[u64], rank: &[u64], table: &mut [u64])
     requires { ⌜ AllAsked 1 (now m) (now rank) (now table) ⌝ }
     ensures { λ r. ⌜ Filled (used (now (m .entry))) (at (now (table .exit))) (baseBit (now (m .entry))) ⌝ }
 {
