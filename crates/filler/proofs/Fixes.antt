@@ -74,14 +74,14 @@ module _ (m challenges words₀ triples₀ words triples : List ℕ) (n : ℕ) (
         same-words = ap length w ∙ lw ∙ f .same-words;
         same-triples = ap length t ∙ lt ∙ f .same-triples;
         base = λ i c l p. ⊎-elim
-        (λ z. let q : expressionAt m n ≡ Base c = ap (expressionAt m) (sym z) ∙ p in ap (at words′) z ∙ ap (λ (x : Values). at (x .0) n) (is (Base c) q) ∙ getD-set-same words n c 0 (room .0))
-        (λ k. ap (λ (x : List ℕ). at x i) w ∙ fixed-other challenges n (expressionAt m n) v i (omega arith) .0 ∙ f .base i c k p) (last-or i n (omega arith));
+            (λ z. let q : expressionAt m n ≡ Base c = ap (expressionAt m) (sym z) ∙ p in ap (at words′) z ∙ ap (λ (x : Values). at (x .0) n) (is (Base c) q) ∙ getD-set-same words n c 0 (room .0))
+            (λ k. ap (λ (x : List ℕ). at x i) w ∙ fixed-other challenges n (expressionAt m n) v i (omega arith) .0 ∙ f .base i c k p) (last-or i n (omega arith));
         extension = λ i x l p. ⊎-elim
-        (λ z. let q : expressionAt m n ≡ Extension x = ap (expressionAt m) (sym z) ∙ p in ap (tripleAt triples′) z ∙ ap (λ (y : Values). tripleAt (y .1) n) (is (Extension x) q) ∙ put-here triples n x (room .1))
-        (λ k. ap (λ (y : List ℕ). tripleAt y i) t ∙ fixed-other challenges n (expressionAt m n) v i (omega arith) .1 ∙ f .extension i x k p) (last-or i n (omega arith));
+            (λ z. let q : expressionAt m n ≡ Extension x = ap (expressionAt m) (sym z) ∙ p in ap (tripleAt triples′) z ∙ ap (λ (y : Values). tripleAt (y .1) n) (is (Extension x) q) ∙ put-here triples n x (room .1))
+            (λ k. ap (λ (y : List ℕ). tripleAt y i) t ∙ fixed-other challenges n (expressionAt m n) v i (omega arith) .1 ∙ f .extension i x k p) (last-or i n (omega arith));
         challenge = λ i c l p. ⊎-elim
-        (λ z. let q : expressionAt m n ≡ Challenge c = ap (expressionAt m) (sym z) ∙ p in ap (tripleAt triples′) z ∙ ap (λ (y : Values). tripleAt (y .1) n) (is (Challenge c) q) ∙ put-here triples n (tripleAt challenges c) (room .1))
-        (λ k. ap (λ (y : List ℕ). tripleAt y i) t ∙ fixed-other challenges n (expressionAt m n) v i (omega arith) .1 ∙ f .challenge i c k p) (last-or i n (omega arith));
+            (λ z. let q : expressionAt m n ≡ Challenge c = ap (expressionAt m) (sym z) ∙ p in ap (tripleAt triples′) z ∙ ap (λ (y : Values). tripleAt (y .1) n) (is (Challenge c) q) ∙ put-here triples n (tripleAt challenges c) (room .1))
+            (λ k. ap (λ (y : List ℕ). tripleAt y i) t ∙ fixed-other challenges n (expressionAt m n) v i (omega arith) .1 ∙ f .challenge i c k p) (last-or i n (omega arith));
       }
 
   pub fixing-done : used m ≤ n → Ready m challenges (words, triples)
@@ -112,9 +112,9 @@ resolving-next targets₀ alias targets items k r h room =
       within = omega arith;
       same = length-set targets k (at alias (at targets k)) ∙ s;
       told = λ j l. ⊎-elim
-      (λ e. rw e (getD-set-same targets k (at alias (at targets k)) 0 (omega arith) ∙ ap (at alias) (r .rest k (omega arith))))
-      (λ lt. getD-set-other targets k j (at alias (at targets k)) 0 (omega arith) ∙ r .told j lt)
-      (last-or j k (omega arith));
+          (λ e. rw e (getD-set-same targets k (at alias (at targets k)) 0 (omega arith) ∙ ap (at alias) (r .rest k (omega arith))))
+          (λ lt. getD-set-other targets k j (at alias (at targets k)) 0 (omega arith) ∙ r .told j lt)
+          (last-or j k (omega arith));
       rest = λ j l. getD-set-other targets k j (at alias (at targets k)) 0 (omega arith) ∙ r .rest j (omega arith);
     }
 

@@ -10,3 +10,5 @@ pub mod Says
 pub mod Targeting
 pub mod Prepares
 pub mod Fixes
+pub mod Eachs
+pub mod Outcomes

@@ -29,10 +29,11 @@ use Rattle.filler.specs.declared.plan.Shape.{Shape}
 use Rattle.filler.specs.Running.{Values, ran}
 use Rattle.filler.specs.Planning.{Staged, Stands, Ready, Says, Planned}
 use Rattle.filler.specs.Rowing.{wordsFor, tripleFor, triplesFor, rowStored, Fits, Prepared}
+use Rattle.filler.specs.Filling.{shapeOf}
 use Rattle.filler.specs.Preparing.{Passed, Preparing, Resolved}
 use Rattle.filler.proofs.Plans.{ready-ran}
 use Rattle.filler.proofs.Stores.{words-length, words-at, triples-length, triples-at}
-use Rattle.filler.proofs.Says.{shapeOf, main-written, aux-written, new-main, new-aux, row-says}
+use Rattle.filler.proofs.Says.{main-written, aux-written, new-main, new-aux, row-says}
 use Rattle.filler.proofs.Targeting.{passed-targeted, passed-fitting}
 
 -- words by their places

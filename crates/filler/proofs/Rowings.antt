@@ -13,7 +13,7 @@ use Rattle.circuit.specs.Rank.{at}
 use Rattle.filler.specs.Rowing.{wordsFor, triplesFor, window, Fits, Inside, Rowed, Storing, StoringWide}
 use Rattle.filler.proofs.Stores.{part-sets, words-length, triples-length}
 
-window-length : (kind width r : ℕ) (l : List ℕ) → r * width + kind * width ≤ length l → length (window kind width r l) ≡ kind * width
+pub window-length : (kind width r : ℕ) (l : List ℕ) → r * width + kind * width ≤ length l → length (window kind width r l) ≡ kind * width
 window-length kind width r l h = omega (arith, length-take (kind * width) (drop (r * width) l), length-drop (r * width) l)
 
 three-out : (k w : ℕ) → k * (3 * w) ≡ 3 * (k * w)

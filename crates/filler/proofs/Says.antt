@@ -32,11 +32,8 @@ use Rattle.filler.specs.declared.plan.Shape.{Shape}
 use Rattle.filler.specs.declared.plan.Source.{Source}
 use Rattle.filler.specs.declared.plan.Source.the-variants.{Word, Wide, Item}
 use Rattle.filler.specs.Planning.{sourceOf, Says}
+use Rattle.filler.specs.Filling.{shapeOf}
 use Rattle.filler.proofs.Instructions.{ItemOf, main-item, aux-item, item-input}
-
--- the shape of rows of so many columns
-abbrev pub shapeOf : ℕ → ℕ → List ℕ → List ℕ → ℕ → ℕ → Shape
-shapeOf mainCount auxCount mains auxs row wide = record { main = mainCount; fresh = length mains; row = row; aux = auxCount; wide = wide; items = length mains + length auxs }
 
 module _ (mainCount auxCount row wide : ℕ) (m mains auxs challenges targets main aux : List ℕ) (fit : Fitting mainCount auxCount m mains auxs challenges main aux) (found : Targets mainCount auxCount m mains auxs targets) (main-long : length main ≡ rowKind m * row) (aux-long : length aux ≡ rowKind m * (3 * wide)) where
   abbrev filled : List ℕ × List ℕ

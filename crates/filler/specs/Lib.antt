@@ -5,3 +5,4 @@ pub mod Ordering
 pub mod Ranking
 pub mod Rowing
 pub mod Preparing
+pub mod Filling

@@ -136,7 +136,7 @@ fn store_aux(
 }
 
 // Fills row r. Reading is done when writing begins: two parts of one table need not be lent at once.
-fn fill_row(
+pub(crate) fn fill_row(
     plan: &[u64],
     many: u64,
     targets: &[u64],
