@@ -2,6 +2,7 @@
 // in specs/Answers.antt.
 mod answers;
 pub mod circuits;
+pub mod fillings;
 pub mod leaves;
 pub mod lowerings;
 pub mod operations;
