@@ -27,3 +27,4 @@ cargo test --offline --quiet
 cargo run --offline --quiet --example tour >"$work/tour"
 sed -n '/^```text$/,/^```$/p' ../docs/TOUR.md | grep -v '^```' | diff - "$work/tour"
 echo "tour: as docs/TOUR.md says"
+cargo run --offline --quiet --example trace

@@ -37,7 +37,7 @@ extern "C" {
 /* p = 2^64 - 2^32 + 1: words of both fields are below it. */
 #define ATZ_P UINT64_C(18446744069414584321)
 
-/* Refusals. Of those that apply the lowest is given, with three exceptions: see atz_evaluate, atz_count_references and atz_lower. */
+/* Refusals. Of those that apply the lowest is given, with four exceptions: see atz_evaluate, atz_count_references, atz_lower and atz_fill. */
 enum {
     ATZ_OK = 0,
     ATZ_NOT_CIRCUIT = 1, /* the lent words are no circuit; of atz_start, too few words or an unknown row kind */
@@ -55,7 +55,8 @@ enum {
     ATZ_NO_ROOM = 13,    /* a list or the walk stack is too short */
     ATZ_REPEAT = 14,     /* reference counts: a root named twice, or lying below another root */
     ATZ_TABLE = 15,      /* a table whose length doesn't fit its layout, or a read beyond it */
-    ATZ_FRAME = 16       /* of the frame program only */
+    ATZ_FRAME = 16,      /* of the frame program only */
+    ATZ_NOT_LOWERED = 17 /* fill: a listed node is not its column plus -1 times an expression that can be worked out yet */
 };
 
 /* Row kinds, and rows of inputs. A single-row circuit has the rows 0 and 1. */
@@ -167,6 +168,25 @@ uint64_t atz_distinct_counts(const uint64_t *circuit, size_t words, uint64_t id,
  * COLUMNS, PATHS, FULL, NO_ROOM. */
 uint64_t atz_lower(uint64_t *circuit, size_t words, uint64_t *roots, size_t count, uint64_t target, uint64_t main_count, uint64_t aux_count,
                    uint64_t *main_list, size_t main_room, uint64_t *aux_list, size_t aux_room, uint64_t *out, size_t room);
+
+/* FILLING THE NEW COLUMNS */
+
+/* Computes the new columns of one row, from a lowering's two lists in their order and its column counts: each new main value into main from main_count
+ * on, then each new auxiliary value into aux from 3·aux_count on; all other words are only read. A dual-row circuit is given both rows, and the current
+ * one is filled. The cells to be filled may hold anything. With the lists of the circuit's latest accepted lowering the result is the one choice that
+ * makes every listed constraint zero; nodes may have been built since. Main columns can be filled before there are challenges: with an empty auxiliary
+ * list, aux_count 0, no auxiliary words and no challenges; the auxiliary ones later, with the filled main columns counted as old.
+ * Tests in this order: NOT_CIRCUIT, BAD_ID, TABLE (also a row with fewer columns than its count and its list), BAD_WORD (every word but the cells to be
+ * filled), NOT_LOWERED. */
+uint64_t atz_fill(const uint64_t *circuit, size_t words, const uint64_t *main_list, size_t main_new, const uint64_t *aux_list, size_t aux_new,
+                  uint64_t main_count, uint64_t aux_count, uint64_t *main, size_t main_words, uint64_t *aux, size_t aux_words,
+                  const uint64_t *challenges, size_t challenge_words);
+
+/* The same for rows that stand one after the other: `rows` rows of equal width. A dual-row circuit reads the row after as the next row and fills all
+ * but the last, from the last to the first. The circuit and the lists are checked once. TABLE also for fewer rows than the circuit reads. */
+uint64_t atz_fill_rows(const uint64_t *circuit, size_t words, const uint64_t *main_list, size_t main_new, const uint64_t *aux_list, size_t aux_new,
+                       uint64_t main_count, uint64_t aux_count, uint64_t rows, uint64_t *main, size_t main_words, uint64_t *aux, size_t aux_words,
+                       const uint64_t *challenges, size_t challenge_words);
 
 #ifdef __cplusplus
 }

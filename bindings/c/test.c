@@ -1,4 +1,4 @@
-/* The header and the library, from C: document 01's x^4, a few refusals, and how a call answers. */
+/* The header and the library, from C: document 01's x^4, filled too, a few refusals, and how a call answers. */
 #include "atzunelca.h"
 
 #include <stdio.h>
@@ -38,10 +38,20 @@ int main(void) {
     EXPECT(atz_read(m, WORDS, id[1], out, 6) == ATZ_OK && out[4] == 0);
 
     /* x = 3, the new column 9: the root is 81, the constraint 0 */
-    uint64_t row[2] = {3, 9};
+    uint64_t row[2] = {3, ATZ_P}, none[1] = {0};
+    EXPECT(atz_fill(m, WORDS, main_list, 1, aux_list, 0, 1, 0, row, 2, none, 0, none, 0) == ATZ_OK);
+    EXPECT(row[0] == 3 && row[1] == 9);
     EXPECT(atz_evaluate(m, WORDS, root, row, 2, row, 0, row, 0, out, 3) == ATZ_OK);
     EXPECT(out[0] == 81 && out[1] == 0 && out[2] == 0);
     EXPECT(atz_evaluate(m, WORDS, 6, row, 2, row, 0, row, 0, out, 3) == ATZ_OK && out[0] == 0);
+
+    /* rows: each as one; a node that is no new column's; no room */
+    uint64_t rows[6] = {3, 0, 4, 0, 5, 0};
+    EXPECT(atz_fill_rows(m, WORDS, id, 1, aux_list, 0, 1, 0, 3, rows, 6, none, 0, none, 0) == ATZ_NOT_LOWERED);
+    EXPECT(atz_fill_rows(m, WORDS, main_list, 1, aux_list, 0, 1, 0, 6, rows, 6, none, 0, none, 0) == ATZ_TABLE);
+    EXPECT(rows[1] == 0 && rows[3] == 0 && rows[5] == 0);
+    EXPECT(atz_fill_rows(m, WORDS, main_list, 1, aux_list, 0, 1, 0, 3, rows, 6, none, 0, none, 0) == ATZ_OK);
+    EXPECT(rows[1] == 9 && rows[3] == 16 && rows[5] == 25);
 
     /* a refusal answers zeros, and changes no other word */
     uint64_t before[WORDS];

@@ -2,7 +2,7 @@
 //!
 //! Main columns: 0 the clock, 1 the state, 2 whether the machine runs. Auxiliary column 0 logs the states as a running product over challenge 0.
 //! A step: while the machine runs the next state is state^7 + clock, and the log takes a factor; else both stay.
-use atzunelca::{Circuit, Expression, Id, Lowered, Refusal, Row, RowKind, Tables, P};
+use atzunelca::{Circuit, Expression, Id, Lowered, Refusal, Row, RowKind, Rows, Tables, P};
 
 /// The two transition constraints; each must be zero on two neighbouring rows.
 fn constraints(circuit: &mut Circuit) -> Result<[Id; 2], Refusal> {
@@ -68,14 +68,14 @@ fn meaning(circuit: &Circuit, constraint: Id) -> Id {
 /// One main row of the trace: clock, state, whether the machine runs.
 type MainRow = [u64; 3];
 
-/// Two neighbouring rows with the new columns filled, in the order of their numbers: a column's node may read the columns before it.
+/// Two neighbouring rows with the new columns of the first filled.
 fn filled(
     circuit: &Circuit,
     lowered: &Lowered,
     rows: [MainRow; 2],
     logs: [[u64; 3]; 2],
     alpha: &[u64],
-) -> [Vec<u64>; 2] {
+) -> Result<[Vec<u64>; 2], Refusal> {
     let (main_width, aux_width) = (3 + lowered.main.len(), 1 + lowered.aux.len());
     let mut main = vec![0; 2 * main_width];
     let mut aux = vec![0; 2 * 3 * aux_width];
@@ -83,16 +83,8 @@ fn filled(
         main[row * main_width..][..3].copy_from_slice(&rows[row]);
         aux[row * 3 * aux_width..][..3].copy_from_slice(&logs[row]);
     }
-    for (k, &constraint) in lowered.main.iter().enumerate() {
-        let tables = Tables { main: &main, aux: &aux, challenges: alpha };
-        main[3 + k] = circuit.evaluate(meaning(circuit, constraint), tables).unwrap()[0];
-    }
-    for (k, &constraint) in lowered.aux.iter().enumerate() {
-        let tables = Tables { main: &main, aux: &aux, challenges: alpha };
-        let value = circuit.evaluate(meaning(circuit, constraint), tables).unwrap();
-        aux[3 + 3 * k..][..3].copy_from_slice(&value);
-    }
-    [main, aux]
+    circuit.fill(lowered, 3, 1, Rows { main: &mut main, aux: &mut aux, challenges: alpha })?;
+    Ok([main, aux])
 }
 
 fn main() -> Result<(), Refusal> {
@@ -124,7 +116,7 @@ fn main() -> Result<(), Refusal> {
     let alpha = [1000, 1, 0];
     for (name, next) in [("a step", 133), ("no step", 134)] {
         let logs = [[1, 0, 0], [1000 - 133, 1, 0]];
-        let [main, aux] = filled(&circuit, &lowered, [[5, 2, 1], [6, next, 1]], logs, &alpha);
+        let [main, aux] = filled(&circuit, &lowered, [[5, 2, 1], [6, next, 1]], logs, &alpha)?;
         let tables = Tables { main: &main, aux: &aux, challenges: &alpha };
         let all = roots.iter().chain(&lowered.main).chain(&lowered.aux);
         let values: Vec<_> = all.map(|&id| circuit.evaluate(id, tables).unwrap()).collect();

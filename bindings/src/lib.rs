@@ -25,7 +25,7 @@
 pub mod sys;
 mod types;
 
-pub use types::{Expression, Id, Lowered, Node, Refusal, Row, RowKind, Tables};
+pub use types::{Expression, Id, Lowered, Node, Refusal, Row, RowKind, Rows, Tables};
 
 /// The most nodes that a circuit holds, whatever is lent.
 pub const MOST_NODES: usize = 4096;
@@ -291,5 +291,55 @@ impl Circuit {
             call!(atz_lower, 2, m, n, r, roots.len(), target, main_count, aux_count, a, main.len(), b, aux.len())?;
         let [main, aux] = [0, 1].map(|k| lists[k][..counts[k] as usize].iter().copied().map(Id).collect());
         Ok(Lowered { main, aux })
+    }
+
+    /// Computes the new columns of one row, from the lists and the counts of a lowering; of a dual-row circuit both rows are given, and the current
+    /// one is filled. Where the lists are those of the circuit's latest lowering, no other words make every listed constraint zero.
+    ///
+    /// Main columns can be filled before there are challenges: with an empty auxiliary list, an auxiliary count of 0 and no auxiliary words; the
+    /// auxiliary ones later, with the filled main columns counted as old.
+    ///
+    /// ```
+    /// # use atzunelca::{Circuit, Row, RowKind, Rows};
+    /// # fn main() -> Result<(), atzunelca::Refusal> {
+    /// let mut circuit = Circuit::new(RowKind::Single, 64);
+    /// let x = circuit.input(Row::Main, 0)?;
+    /// let square = circuit.multiply(x, x)?;
+    /// let fourth = circuit.multiply(square, square)?;
+    /// let lowered = circuit.lower(&mut [fourth], 2, 1, 0)?;
+    ///
+    /// let mut main = [3, 0];
+    /// circuit.fill(&lowered, 1, 0, Rows { main: &mut main, ..Rows::default() })?;
+    /// assert_eq!([3, 9], main);
+    /// # Ok(()) }
+    /// ```
+    pub fn fill(&self, lowered: &Lowered, main_count: u64, aux_count: u64, row: Rows) -> Result<(), Refusal> {
+        let ((m, n), (l, news), (k, knews)) = (self.lent(), numbers(&lowered.main), numbers(&lowered.aux));
+        let Rows { main, aux, challenges } = row;
+        let (a, b, c) = (main.as_mut_ptr(), aux.as_mut_ptr(), challenges.as_ptr());
+        let (x, y, z) = (main.len(), aux.len(), challenges.len());
+        // SAFETY: borrowed slices, and those that are written are borrowed alone.
+        let number = unsafe { sys::atz_fill(m, n, l, news, k, knews, main_count, aux_count, a, x, b, y, c, z) };
+        answered(number, ())
+    }
+
+    /// The same for so many rows, one after the other: the circuit and the lists are checked once. A dual-row circuit reads the row after as the next
+    /// row, and fills all but the last.
+    pub fn fill_rows(
+        &self,
+        lowered: &Lowered,
+        main_count: u64,
+        aux_count: u64,
+        rows: u64,
+        tables: Rows,
+    ) -> Result<(), Refusal> {
+        let ((m, n), (l, news), (k, knews)) = (self.lent(), numbers(&lowered.main), numbers(&lowered.aux));
+        let Rows { main, aux, challenges } = tables;
+        let (a, b, c) = (main.as_mut_ptr(), aux.as_mut_ptr(), challenges.as_ptr());
+        let (x, y, z) = (main.len(), aux.len(), challenges.len());
+        // SAFETY: as above.
+        let number =
+            unsafe { sys::atz_fill_rows(m, n, l, news, k, knews, main_count, aux_count, rows, a, x, b, y, c, z) };
+        answered(number, ())
     }
 }

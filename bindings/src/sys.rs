@@ -107,4 +107,38 @@ extern "C" {
         out: *mut u64,
         room: usize,
     ) -> u64;
+
+    pub fn atz_fill(
+        circuit: *const u64,
+        words: usize,
+        main_list: *const u64,
+        main_new: usize,
+        aux_list: *const u64,
+        aux_new: usize,
+        main_count: u64,
+        aux_count: u64,
+        main: *mut u64,
+        main_words: usize,
+        aux: *mut u64,
+        aux_words: usize,
+        challenges: *const u64,
+        challenge_words: usize,
+    ) -> u64;
+    pub fn atz_fill_rows(
+        circuit: *const u64,
+        words: usize,
+        main_list: *const u64,
+        main_new: usize,
+        aux_list: *const u64,
+        aux_new: usize,
+        main_count: u64,
+        aux_count: u64,
+        rows: u64,
+        main: *mut u64,
+        main_words: usize,
+        aux: *mut u64,
+        aux_words: usize,
+        challenges: *const u64,
+        challenge_words: usize,
+    ) -> u64;
 }

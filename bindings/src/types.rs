@@ -74,6 +74,15 @@ pub struct Tables<'a> {
     pub challenges: &'a [u64],
 }
 
+/// Rows whose new columns are filled: tables as [`Tables`] has them, with so many columns a row as there are in all. What stood in the new cells
+/// doesn't matter; all other words are only read.
+#[derive(Debug, Default)]
+pub struct Rows<'a> {
+    pub main: &'a mut [u64],
+    pub aux: &'a mut [u64],
+    pub challenges: &'a [u64],
+}
+
 /// The constraints that a lowering added. Constraint k of a list belongs to the column count + k.
 #[derive(Debug, Clone, PartialEq, Eq)]
 pub struct Lowered {
@@ -123,6 +132,7 @@ refusals! {
     Repeat = 14, "REPEAT", "a root named twice, or lying below another root";
     Table = 15, "TABLE", "a table whose length doesn't fit its layout, or a read beyond it";
     Frame = 16, "FRAME", "of the frame program only";
+    NotLowered = 17, "NOT_LOWERED", "fill: a listed node is not its column plus -1 times an expression that can be worked out yet";
 }
 
 impl Refusal {

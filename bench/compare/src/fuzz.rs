@@ -1,6 +1,6 @@
 //! Damages random words of grown circuits and of other lent slices, calls, and checks what every call owes: that it returns, with a number of
-//! document 01; that a refusal left every slice as it was and answered zeros; that nothing is written beyond an answer or outside a slice; and that a
-//! circuit that was changed is one still.
+//! document 01; that a refusal left every slice as it was and answered zeros; that nothing is written beyond an answer or outside a slice; that a
+//! circuit that was changed is one still; and that every listed constraint is zero on every row that was filled.
 use std::collections::BTreeMap;
 
 use atzunelca::sys::*;
@@ -57,6 +57,7 @@ impl Lent {
 struct Slices {
     m: Lent,
     ids: Lent,
+    others: Lent,
     first: Lent,
     second: Lent,
     third: Lent,
@@ -71,7 +72,7 @@ struct Promise {
     is_id: bool,
 }
 
-const NAMES: [&str; 30] = [
+const NAMES: [&str; 32] = [
     "start",
     "is_circuit",
     "read",
@@ -102,6 +103,8 @@ const NAMES: [&str; 30] = [
     "count_references",
     "distinct_counts",
     "lower",
+    "fill",
+    "fill_rows",
 ];
 
 /// Which refusals a call may give, by their numbers.
@@ -119,13 +122,14 @@ fn allowed(call: usize) -> &'static [u64] {
         "walk" | "distinct_counts" => &[1, 2, 13],
         "count_references" => &[1, 2, 12, 14],
         "lower" => &[1, 2, 6, 8, 9, 10, 11, 12, 13],
+        "fill" | "fill_rows" => &[1, 2, 5, 15, 17],
         _ => &[1, 2],
     }
 }
 
 fn promise(call: usize) -> Promise {
     let values = match NAMES[call] {
-        "start" | "is_circuit" | "count_references" => 0,
+        "start" | "is_circuit" | "count_references" | "fill" | "fill_rows" => 0,
         "read" => 6,
         "evaluate" => 3,
         "lower" => 2,
@@ -146,6 +150,7 @@ fn call(which: usize, s: &mut Slices, [a, b, c]: [u64; 3]) -> u64 {
     let (n, room, count) = (s.m.len(), s.out.len(), s.ids.len());
     let (p, m, out) = (s.m.ptr(), s.m.ptr_mut(), s.out.ptr_mut());
     let (ids, ids_mut) = (s.ids.ptr(), s.ids.ptr_mut());
+    let (others, more) = (s.others.ptr(), s.others.len());
     let (first, second, third) = (s.first.ptr_mut(), s.second.ptr_mut(), s.third.ptr());
     let (firsts, seconds, thirds) = (s.first.len(), s.second.len(), s.third.len());
     unsafe {
@@ -180,6 +185,10 @@ fn call(which: usize, s: &mut Slices, [a, b, c]: [u64; 3]) -> u64 {
             "count_references" => atz_count_references(m, n, ids, count),
             "distinct_counts" => atz_distinct_counts(p, n, a, first, firsts, out, room),
             "lower" => atz_lower(m, n, ids_mut, count, a, b, c, first, firsts, second, seconds, out, room),
+            "fill" => atz_fill(p, n, ids, count, others, more, a, b, first, firsts, second, seconds, third, thirds),
+            "fill_rows" => {
+                atz_fill_rows(p, n, ids, count, others, more, a, b, c, first, firsts, second, seconds, third, thirds)
+            }
             _ => unreachable!(),
         }
     }
@@ -205,12 +214,22 @@ fn id(rng: &mut Rng, used: u64) -> u64 {
     }
 }
 
+/// How many columns of each table a grown circuit has, before it is lowered.
+const COLUMNS: usize = 8;
+
+/// A circuit and the two lists of its lowering, if it was lowered.
+struct Grown {
+    m: Vec<u64>,
+    lists: [Vec<u64>; 2],
+}
+
 /// A circuit grown by calls: so many nodes or fewer, some lowered.
-fn grown(rng: &mut Rng, nodes: u64) -> Vec<u64> {
+fn grown(rng: &mut Rng, nodes: u64) -> Grown {
     let places = nodes as usize + rng.below(30) + if rng.percent(50) { 3 * nodes as usize } else { 0 };
     let mut m = vec![0; 2 + 6 * places + rng.below(6)];
     let (p, n) = (m.as_mut_ptr(), m.len());
     let mut out = 0;
+    let mut lists = [vec![], vec![]];
     unsafe {
         atz_start(p, n, 1 + rng.below(2) as u64);
         // Some have a tower of squarings or doublings in them: high degrees, many paths.
@@ -223,7 +242,7 @@ fn grown(rng: &mut Rng, nodes: u64) -> Vec<u64> {
             let refused = match rng.below(if used < 4 { 5 } else { 12 }) {
                 5.. if tower == 0 => atz_multiply(p, n, used - 1, used - 1, &mut out, 1),
                 5.. if tower == 1 && used > 7 => atz_add(p, n, used - 1, used - 1, &mut out, 1),
-                0..=2 => atz_input(p, n, rng.below(4) as u64, rng.below(8) as u64, &mut out, 1),
+                0..=2 => atz_input(p, n, rng.below(4) as u64, rng.below(COLUMNS) as u64, &mut out, 1),
                 3 => atz_challenge(p, n, rng.below(4) as u64, &mut out, 1),
                 4 => atz_extension_constant(p, n, rng.below(4) as u64, rng.below(2) as u64, 0, &mut out, 1),
                 5..=8 => {
@@ -239,7 +258,7 @@ fn grown(rng: &mut Rng, nodes: u64) -> Vec<u64> {
         if rng.percent(40) {
             let used = *p.add(1);
             let mut roots = [used - 1, rng.below(used as usize) as u64];
-            let mut lists = [vec![0u64; 4096], vec![0u64; 4096]];
+            lists = [vec![0u64; 4096], vec![0u64; 4096]];
             let [main, aux] = &mut lists;
             let mut counts = [0; 2];
             let target = 2 + rng.below(3) as u64;
@@ -249,8 +268,8 @@ fn grown(rng: &mut Rng, nodes: u64) -> Vec<u64> {
                 roots.as_mut_ptr(),
                 2,
                 target,
-                8,
-                8,
+                COLUMNS as u64,
+                COLUMNS as u64,
                 main.as_mut_ptr(),
                 4096,
                 aux.as_mut_ptr(),
@@ -258,13 +277,90 @@ fn grown(rng: &mut Rng, nodes: u64) -> Vec<u64> {
                 counts.as_mut_ptr(),
                 2,
             );
+            main.truncate(counts[0] as usize);
+            aux.truncate(counts[1] as usize);
         }
     }
-    m
+    Grown { m, lists }
+}
+
+/// Lists, tables and counts of a fill: mostly those of the circuit's lowering, with a few rows of its width or wider.
+fn rows(rng: &mut Rng, which: usize, grown: &Grown, s: &mut Slices) -> [u64; 3] {
+    let used = grown.m[1];
+    let kind = grown.m[0] as usize;
+    let [mut main, mut aux] = grown.lists.clone();
+    for list in [&mut main, &mut aux] {
+        match rng.below(12) {
+            0 if !list.is_empty() => {
+                let at = rng.below(list.len());
+                list[at] = id(rng, used);
+            }
+            1 => list.push(id(rng, used)),
+            2 => list.truncate(rng.below(list.len() + 1)),
+            _ => (),
+        }
+    }
+    let rows = if NAMES[which] == "fill" { kind } else { kind - 1 + rng.below(4) };
+    let counts = [0; 2].map(|_| if rng.percent(95) { COLUMNS } else { rng.below(COLUMNS + 3) });
+    let wider = [0; 2].map(|_| if rng.percent(80) { 0 } else { rng.below(3) });
+    let lengths = [rows * (counts[0] + main.len() + wider[0]), 3 * rows * (counts[1] + aux.len() + wider[1]), 12];
+    let [first, second, third] = lengths.map(|length| {
+        let length = if rng.percent(97) { length } else { rng.below(length + 4) };
+        let mut words: Vec<u64> = (0..length).map(|_| rng.next() >> 2).collect();
+        if rng.percent(10) && length > 0 {
+            words[rng.below(length)] = word(rng, used);
+        }
+        Lent::new(&words)
+    });
+    (s.ids, s.others, s.first, s.second, s.third) = (Lent::new(&main), Lent::new(&aux), first, second, third);
+    let count = |rng: &mut Rng, count: usize| if rng.percent(98) { count as u64 } else { word(rng, used) };
+    [count(rng, counts[0]), count(rng, counts[1]), count(rng, rows)]
+}
+
+/// What is wrong with rows that were filled: a cell that isn't new was written, or a listed constraint isn't zero.
+fn badly_filled(which: usize, before: &Slices, after: &Slices, [mains, auxs, rows]: [u64; 3]) -> Option<&'static str> {
+    if before.ids != after.ids || before.others != after.others {
+        return Some("a list that was changed");
+    }
+    let (news, more) = (after.ids.len(), after.others.len());
+    if news + more == 0 {
+        let same = before.first == after.first && before.second == after.second;
+        return (!same).then_some("a word written though there is no new column");
+    }
+    let kind = after.m.words()[0] as usize;
+    let rows = if NAMES[which] == "fill" { kind } else { rows as usize };
+    let filled = rows + 1 - kind;
+    let tables = [(&before.first, &after.first, 1, mains, news), (&before.second, &after.second, 3, auxs, more)];
+    for (old, new, words, count, fresh) in tables {
+        let (width, from) = (new.len() / rows, words * count as usize);
+        for at in 0..new.len() {
+            let is_new = at / width < filled && (from..from + words * fresh).contains(&(at % width));
+            if !is_new && old.words()[at] != new.words()[at] {
+                return Some("a cell that isn't to be filled");
+            }
+        }
+    }
+    let (a, b) = (after.first.len() / rows, after.second.len() / rows);
+    for r in 0..filled {
+        let (main, aux) = (&after.first.words()[r * a..][..kind * a], &after.second.words()[r * b..][..kind * b]);
+        for &constraint in after.ids.words().iter().chain(after.others.words()) {
+            let mut out = [1; 3];
+            let (m, c) = (after.m.words(), after.third.words());
+            let (p, x, y, z) = (m.as_ptr(), main.as_ptr(), aux.as_ptr(), c.as_ptr());
+            let (n, o) = (m.len(), out.as_mut_ptr());
+            // SAFETY: as in `call`.
+            let number = unsafe { atz_evaluate(p, n, constraint, x, main.len(), y, aux.len(), z, c.len(), o, 3) };
+            if (number, out) != (0, [0; 3]) {
+                return Some("a listed constraint that isn't zero");
+            }
+        }
+    }
+    None
 }
 
 /// Slices and arguments for a call on this circuit, some of them damaged.
-fn prepared(rng: &mut Rng, which: usize, circuit: &[u64]) -> (Slices, [u64; 3]) {
+fn prepared(rng: &mut Rng, which: usize, grown: &Grown) -> (Slices, [u64; 3]) {
+    let circuit = &grown.m[..];
     let used = circuit[1];
     let mut m = Lent::new(if rng.percent(3) { &circuit[..rng.below(circuit.len() + 1)] } else { circuit });
     let damages = rng.pick(&[0, 1, 1, 1, 1, 2, 3, 8]);
@@ -309,12 +405,17 @@ fn prepared(rng: &mut Rng, which: usize, circuit: &[u64]) -> (Slices, [u64; 3]) 
         _ => [id(rng, used), id(rng, used), 0],
     };
     let out = Lent::filled(rng.pick(&[0, 1, 1, 1, 2, 3, 6, 6, 8]));
-    (Slices { m, ids: Lent::new(&ids), first, second, third, out }, arguments)
+    let mut slices = Slices { m, ids: Lent::new(&ids), others: Lent::filled(0), first, second, third, out };
+    let arguments = match NAMES[which] {
+        "fill" | "fill_rows" => rows(rng, which, grown, &mut slices),
+        _ => arguments,
+    };
+    (slices, arguments)
 }
 
 /// What is wrong with an answer, if anything is.
-fn wrong(which: usize, number: u64, before: &Slices, after: &Slices) -> Option<&'static str> {
-    let all = [&after.m, &after.ids, &after.first, &after.second, &after.third, &after.out];
+fn wrong(which: usize, number: u64, before: &Slices, after: &Slices, arguments: [u64; 3]) -> Option<&'static str> {
+    let all = [&after.m, &after.ids, &after.others, &after.first, &after.second, &after.third, &after.out];
     if !all.iter().all(|slice| slice.guarded()) {
         return Some("a word outside a slice");
     }
@@ -345,6 +446,9 @@ fn wrong(which: usize, number: u64, before: &Slices, after: &Slices) -> Option<&
     if is_id && told == 1 && after.out.words()[0] >= after.m.words()[1] {
         return Some("an id of no node");
     }
+    if NAMES[which].starts_with("fill") {
+        return badly_filled(which, before, after, arguments);
+    }
     if told == values {
         let written = lists(after.out.words());
         for (list, old, most) in
@@ -374,15 +478,15 @@ pub fn fuzz(most: u64, seed: u64) {
         }
         let which = rng.below(NAMES.len());
         let (mut slices, arguments) = prepared(&mut rng, which, &circuit);
-        damaged += u64::from(slices.m.words() != circuit);
+        damaged += u64::from(slices.m.words() != circuit.m);
         let before = slices.clone();
         let clock = clock::now();
         let number = call(which, &mut slices, arguments);
         let seconds = clock::now() - clock;
         if seconds > longest.0 {
-            longest = (seconds, which, circuit[1]);
+            longest = (seconds, which, circuit.m[1]);
         }
-        if let Some(wrong) = wrong(which, number, &before, &slices) {
+        if let Some(wrong) = wrong(which, number, &before, &slices, arguments) {
             println!("turn {turn} of seed {seed}: {} {arguments:?} answered {number}: {wrong}", NAMES[which]);
             std::process::exit(1);
         }

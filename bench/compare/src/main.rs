@@ -1,6 +1,6 @@
 //! The proved library beside the Rust that it follows, on the same inputs in one process.
 //!
-//!   compare measure [WHAT]         times: building, evaluation, lowering; see measure.rs
+//!   compare measure [WHAT]         times: building, evaluation, lowering, filling; see measure.rs
 //!   compare once SPAN CIRCUIT...   one span alone, for callgrind to count
 //!   compare edges                  ours on circuits with more paths than any memory
 //!   compare stack                  bytes of stack, each call on the deepest circuit

@@ -1,5 +1,5 @@
 //! Times side by side, as lines of words with tabs between: what, circuit, nodes, how many calls or substitutions, then microseconds: the Rust's,
-//! ours, and of building ours by the inner calls. Both sides' answers are compared first.
+//! ours, and of building ours by the inner calls; of filling a row's, and rows a second. Both sides' answers are compared first.
 use crate::both::{Both, Forgetting};
 use crate::calls::Call;
 use crate::clock::{least, run};
@@ -73,6 +73,30 @@ fn lower(circuit: &str, target: u64, turns: usize) {
     line(&format!("lower to {target}"), circuit, before, main.len() + aux.len(), &seconds);
 }
 
+/// So many rows are filled, and one more is read.
+const ROWS: usize = 200;
+
+/// New columns of a trace after a lowering to 2. The line has the number of new columns, microseconds a row, and rows a second.
+fn fill(circuit: &str, turns: usize) {
+    let both = Both::new(&shapes::calls(circuit));
+    let mut lowered = ours::Lowering::new(&both.m, &both.root_ids());
+    match ours::span_lower_ours(&mut lowered, 2, MAINS, AUXS) {
+        0 => (),
+        refused => return eprintln!("{circuit} can't be lowered: {refused}"),
+    }
+    let (main, aux) = rust::span_lower_rust(&mut both.root_nodes(), 2);
+    let trace = || rust::Trace::new(&main, &aux, ROWS + 1);
+    let (mut theirs, mut lent) = (trace(), trace().lent());
+    rust::span_fill_rust(&mut theirs);
+    let fill_ours = |lent: &mut ours::Lent| ours::span_fill_ours(&lowered, MAINS, AUXS, ROWS as u64 + 1, lent);
+    fill_ours(&mut lent);
+    assert!(theirs.lent() == lent, "another filling");
+    let seconds = least(turns, [run(trace, rust::span_fill_rust), run(|| trace().lent(), fill_ours)]);
+    let columns = main.len() + aux.len();
+    let [rust, ours] = seconds.map(|s| s / ROWS as f64);
+    line("fill", circuit, both.used(), columns, &[rust, ours, 1e-6 / rust, 1e-6 / ours]);
+}
+
 /// One span alone, for callgrind to count between its entry and its return.
 pub fn once(what: &str, circuit: &str) {
     let calls = shapes::calls(circuit);
@@ -131,6 +155,11 @@ pub fn measure(only: Option<&str>) {
             for circuit in shapes::family(shape, sizes) {
                 targets.iter().for_each(|&target| lower(&circuit, target, 11));
             }
+        }
+    }
+    if wants("fill") {
+        for shape in ["products", "selectors"] {
+            shapes::family(shape, &[250, 500, 1000, 1200, 1500, 2000]).iter().for_each(|circuit| fill(circuit, 11));
         }
     }
 }

@@ -112,6 +112,7 @@ pub fn span_build_inner(m: &mut [u64], calls: &[Call]) -> Vec<u64> {
     follow(calls, |call| tables.call(m, call))
 }
 
+#[derive(PartialEq)]
 pub struct Lent {
     pub main: Vec<u64>,
     pub aux: Vec<u64>,
@@ -155,6 +156,18 @@ pub fn span_lower_ours(lent: &mut Lowering, target: u64, mains: u64, auxs: u64) 
     main.truncate(counts[0] as usize);
     aux.truncate(counts[1] as usize);
     refused
+}
+
+/// Fills the new columns of rows by one call.
+#[inline(never)]
+pub fn span_fill_ours(lowered: &Lowering, mains: u64, auxs: u64, rows: u64, trace: &mut Lent) {
+    let Lowering { m, main: list, aux: other, .. } = lowered;
+    let (p, l, k) = (m.as_ptr(), list.as_ptr(), other.as_ptr());
+    let (a, b, c) = (trace.main.as_mut_ptr(), trace.aux.as_mut_ptr(), trace.challenges.as_ptr());
+    let (x, y, z) = (trace.main.len(), trace.aux.len(), trace.challenges.len());
+    let refused =
+        unsafe { atz_fill_rows(p, m.len(), l, list.len(), k, other.len(), mains, auxs, rows, a, x, b, y, c, z) };
+    assert_eq!(0, refused);
 }
 
 /// Public calls on two ids.

@@ -1,4 +1,7 @@
 //! The same calls straight on the Rust's builder.
+use std::cell::RefCell;
+use std::rc::Rc;
+
 use ndarray::ArrayView2;
 use triton_constraint_circuit::*;
 use twenty_first::prelude::*;
@@ -91,4 +94,66 @@ pub fn span_evaluate_rust(root: &Node, tables: &Tables) -> [u64; 3] {
 pub fn span_lower_rust(roots: &mut [Node], target: u64) -> (Vec<Node>, Vec<Node>) {
     let info = DegreeLoweringInfo { target_degree: target as isize, num_main_cols: MAIN, num_aux_cols: AUX };
     Node::lower_to_degree(roots, info)
+}
+
+type Inner = Rc<RefCell<ConstraintCircuit<DualRowIndicator>>>;
+
+/// What a new column's constraint says of it: of (input + -1·node), the node.
+fn meaning(constraint: &Node) -> Inner {
+    let CircuitExpression::BinOp(BinOp::Add, _, negated) = &constraint.circuit.borrow().expression else {
+        panic!("no sum")
+    };
+    let CircuitExpression::BinOp(BinOp::Mul, left, right) = &negated.borrow().expression else { panic!("no product") };
+    let is_constant = matches!(left.borrow().expression, CircuitExpression::BConst(_));
+    if is_constant { right.clone() } else { left.clone() }
+}
+
+/// Rows one after the other, old and new columns, and what the new ones are to hold.
+pub struct Trace {
+    tables: Tables,
+    widths: [usize; 2],
+    rows: usize,
+    meanings: [Vec<Inner>; 2],
+}
+
+impl Trace {
+    /// Any words in the old columns, zeros in the new ones.
+    pub fn new(main: &[Node], aux: &[Node], rows: usize) -> Self {
+        let triple = |kind, index| XFieldElement::new(cell(0, kind, index).map(BFieldElement::new));
+        let widths = [MAIN + main.len(), AUX + aux.len()];
+        let column = |kind, old: usize, width: usize| -> Vec<XFieldElement> {
+            let zero = BFieldElement::new(0).lift();
+            (0..rows * width).map(|at| if at % width < old { triple(kind, at) } else { zero }).collect()
+        };
+        let tables = Tables {
+            main: column(5, MAIN, widths[0]).iter().map(|x| x.coefficients[0]).collect(),
+            aux: column(6, AUX, widths[1]),
+            challenges: (0..CHALLENGES).map(|index| triple(2, index)).collect(),
+        };
+        let meanings = [main, aux].map(|list| list.iter().map(meaning).collect());
+        Self { tables, widths, rows, meanings }
+    }
+
+    pub fn lent(&self) -> Lent {
+        self.tables.lent()
+    }
+}
+
+/// Evaluates each new column's node on each row but the last, and stores the value.
+#[inline(never)]
+pub fn span_fill_rust(trace: &mut Trace) {
+    let Trace { tables: Tables { main, aux, challenges }, widths: [a, b], rows, meanings } = trace;
+    let (a, b) = (*a, *b);
+    for r in 0..*rows - 1 {
+        for (k, node) in meanings.iter().enumerate().flat_map(|(k, list)| list.iter().enumerate().map(move |n| (k, n)))
+        {
+            let both = ArrayView2::from_shape((2, a), &main[r * a..][..2 * a]).unwrap();
+            let beside = ArrayView2::from_shape((2, b), &aux[r * b..][..2 * b]).unwrap();
+            let value = node.1.borrow().evaluate(both, beside, challenges);
+            match k {
+                0 => main[r * a + MAIN + node.0] = value.coefficients[0],
+                _ => aux[r * b + AUX + node.0] = value,
+            }
+        }
+    }
 }

@@ -99,5 +99,11 @@ pub fn stack() {
         });
         assert_eq!((0, 1), (number, out[0]));
         say("lower", bytes);
+        let (mut row, mut none) = ([1u64, 0], [0u64]);
+        let (a, b) = (row.as_mut_ptr(), none.as_mut_ptr());
+        let (p, n) = (m.as_ptr(), m.len());
+        let bytes = used(|| number = atz_fill(p, n, l, 1, s, 0, 1, 0, a, 2, b, 0, word.as_ptr(), 0));
+        assert_eq!(0, number);
+        say("fill", bytes);
     }
 }
