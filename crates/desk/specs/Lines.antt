@@ -7,7 +7,7 @@ use lib.Dec.{ltb, eqb}
 use Rattle.layout.specs.Lists.{if_then_else_, all, any}
 use Rattle.layout.specs.Words.{rowKind}
 use Rattle.layout.specs.NotCircuit.{badWord}
-use Rattle.layout.specs.Outcomes.{Outcome}
+use Rattle.layout.specs.Outcomes.{Outcome, refusal}
 use Rattle.framing.specs.Digits.{isDigit, bytesOf}
 use Rattle.framing.specs.Requests.{requestOf}
 use Rattle.framing.specs.Answers.{Replied, replied, replyBytes, FRAME}
@@ -36,13 +36,17 @@ frameTold d line =
     let r = replied (d .state) (requestOf line) in
     told (desk (r .state) (latestAfter (d .latest) (requestOf line) (r .reply)) (d .challenges)) (replyBytes (r .reply) (r .state .main) (r .state .aux))
 
+-- digits, two for the opcode and 48 for each challenge, of which there aren't too many
+unfoldable pub isChallenges : ℕ → List ℕ → Bool
+isChallenges n line = all isDigit line && (eqb (length line) (2 + 48 * n) && not (tooMany n))
+
 -- 0b, then challenges, 24 bytes each: they take the place of the earlier ones. 00, BAD_WORD, or FRAME
 unfoldable pub challengesTold : Desk → List ℕ → Told
 challengesTold d line =
     let n = length line / 48 in
     let given = wordsAt (elementWords * n) 1 (bytesOf line) in
     let accepted = if any badWord given then told d (5 ∷ []) else told (desk (d .state) (d .latest) given) (0 ∷ []) in
-    if not (all isDigit line) || (not (eqb (length line) (2 + 48 * n)) || tooMany n) then told d (FRAME ∷ []) else accepted
+    if isChallenges n line then accepted else told d (FRAME ∷ [])
 
 -- how many bytes one row has: its main cells, then its auxiliary cells, of the old columns
 abbrev pub rowBytes : Latest → ℕ
@@ -74,15 +78,16 @@ fillOf d line =
 unfoldable pub fillBytes : Latest → Outcome (Unit {0}) (List ℕ × List ℕ) → List ℕ
 fillBytes l o = o .number ∷ (if eqb (o .number) 0 then eights (newMain (l .«main_count») (l .mains) (o .lent .0) ++ newAux (l .«aux_count») (l .auxs) (o .lent .1)) else [])
 
--- 0c, then the old cells of this row, and in a dual-row circuit of the next. FRAME before a lower frame is accepted, NO_ROOM if a row is too wide, FRAME
--- for any other length or character; else what fill answers
+-- FRAME before a lower frame is accepted, NO_ROOM if a row is too wide, whatever follows, FRAME for any other length or character
+unfoldable pub rowRefusal : Latest → ℕ → List ℕ → ℕ
+rowRefusal l rows line = refusal ((FRAME, not (l .lowered)) ∷ (13, tooWide l) ∷ (FRAME, not (isRows l rows line)) ∷ [])
+
+-- 0c, then the old cells of this row, and in a dual-row circuit of the next; else what fill answers
 unfoldable pub rowAnswer : Desk → List ℕ → List ℕ
 rowAnswer d line =
+    let n = rowRefusal (d .latest) (rowKind (d .state .circuit)) line in
     let filled = fillBytes (d .latest) (fillOf d line) in
-    if not (d .latest .lowered) then FRAME ∷ []
-    else if tooWide (d .latest) then 13 ∷ []
-    else if isRows (d .latest) (rowKind (d .state .circuit)) line then filled
-    else FRAME ∷ []
+    if eqb n 0 then filled else n ∷ []
 
 -- the line begins with these two characters
 abbrev pub opens : ℕ → ℕ → List ℕ → Bool

@@ -21,10 +21,11 @@ pub record Desked : Type 0 where
 abbrev pub desked : ℕ → Desk → List ℕ → Desked
 desked written desk answer = record { written = written; desk = desk; answer = answer }
 
+abbrev pub deskedBy : Told → List ℕ → Desked
+deskedBy t answer = desked (length (toldLine t)) (t .desk) (sets answer 0 (toldLine t))
+
 unfoldable pub deskCall : Desk → List ℕ → List ℕ → Desked
-deskCall d line answer =
-    let t = lineTold d line in
-    desked (length (toldLine t)) (t .desk) (sets answer 0 (toldLine t))
+deskCall d line answer = let t = lineTold d line in deskedBy t answer
 
 -- each line gets one
 unfoldable pub linesTold : Desk → List (List ℕ) → List ℕ

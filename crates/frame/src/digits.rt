@@ -21,7 +21,7 @@ fn is_digit(c: u8) -> bool
 }
 
 // Whether a line has nothing else.
-pub(crate) fn all_digits(line: &[u8]) -> bool
+pub fn all_digits(line: &[u8]) -> bool
     ensures { λ r. ⌜ r ≡ all isDigit (now (line .entry)) ⌝ }
 {
     let mut i: usize = 0;
@@ -49,7 +49,7 @@ fn digit(c: u8) -> u64
 
 // A line's byte, two digits; 0 if it is missing.
 fn byte_at(line: &[u8], i: usize) -> u64
-    requires { ⌜ i < 256 ⌝ }
+    requires { ⌜ i < 131072 ⌝ }
     ensures { λ r. ⌜ r ≡ getD (bytesOf (now (line .entry))) i 0 ⌝ }
 {
     let at = 2 * i;
@@ -61,7 +61,7 @@ fn byte_at(line: &[u8], i: usize) -> u64
 
 // The number of so many bytes, after so many: big-endian.
 pub fn number(line: &[u8], size: usize, after: usize) -> u64
-    requires { ⌜ (size ≤ 8) × (after ≤ 32) ⌝ }
+    requires { ⌜ (size ≤ 8) × (after ≤ 65536) ⌝ }
     ensures { λ r. ⌜ r ≡ numberAt size after (bytesOf (now (line .entry))) ⌝ }
 {
     let mut n: u64 = 0;

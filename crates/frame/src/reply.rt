@@ -12,7 +12,7 @@ ghost use Rattle.frame.specs.Puts.{Put};
 
 const LINE_FEED: u8 = 10;
 
-fn put(answer: &mut [u8], at: usize, c: u8) -> usize
+pub fn put(answer: &mut [u8], at: usize, c: u8) -> usize
     requires { ⌜ at + 1 < 2 ^ 64 ⌝ }
     ensures { λ r. ⌜ Put (now (answer .entry)) at (c ∷ []) (now (answer .exit)) r ⌝ }
 {
@@ -24,7 +24,7 @@ fn put(answer: &mut [u8], at: usize, c: u8) -> usize
 }
 
 // A byte, two digits.
-fn put_byte(answer: &mut [u8], at: usize, b: u64) -> usize
+pub fn put_byte(answer: &mut [u8], at: usize, b: u64) -> usize
     requires { ⌜ at + 2 < 2 ^ 64 ⌝ }
     ensures { λ r. ⌜ Put (now (answer .entry)) at (hexadecimal (b ∷ [])) (now (answer .exit)) r ⌝ }
 {
@@ -33,7 +33,7 @@ fn put_byte(answer: &mut [u8], at: usize, b: u64) -> usize
 }
 
 // A number in two bytes.
-fn put_two(answer: &mut [u8], at: usize, n: u64) -> usize
+pub fn put_two(answer: &mut [u8], at: usize, n: u64) -> usize
     requires { ⌜ at + 4 < 2 ^ 64 ⌝ }
     ensures { λ r. ⌜ Put (now (answer .entry)) at (hexadecimal (two n)) (now (answer .exit)) r ⌝ }
 {

@@ -130,7 +130,7 @@ fn answer_to(
     }
 }
 
-pub(crate) fn respond(
+pub fn respond(
     m: &mut [u64],
     roots: &mut [u64],
     main: &mut [u64],

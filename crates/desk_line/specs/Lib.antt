@@ -1,0 +1,4 @@
+-- What is asked where a line is answered.
+pub mod Reading
+pub mod Rows
+pub mod Kinds
