@@ -107,6 +107,9 @@ const NAMES: [&str; 32] = [
     "fill_rows",
 ];
 
+/// The two fills, the last of the names.
+const FILLS: usize = NAMES.len() - 2;
+
 /// Which refusals a call may give, by their numbers.
 fn allowed(call: usize) -> &'static [u64] {
     match NAMES[call] {
@@ -308,7 +311,7 @@ fn rows(rng: &mut Rng, which: usize, grown: &Grown, s: &mut Slices) -> [u64; 3] 
         let length = if rng.percent(97) { length } else { rng.below(length + 4) };
         let mut words: Vec<u64> = (0..length).map(|_| rng.next() >> 2).collect();
         if rng.percent(10) && length > 0 {
-            words[rng.below(length)] = word(rng, used);
+            words[rng.below(length)] = if rng.percent(50) { atzunelca::P } else { word(rng, used) };
         }
         Lent::new(&words)
     });
@@ -446,7 +449,7 @@ fn wrong(which: usize, number: u64, before: &Slices, after: &Slices, arguments: 
     if is_id && told == 1 && after.out.words()[0] >= after.m.words()[1] {
         return Some("an id of no node");
     }
-    if NAMES[which].starts_with("fill") {
+    if which >= FILLS {
         return badly_filled(which, before, after, arguments);
     }
     if told == values {
@@ -470,13 +473,15 @@ pub fn fuzz(most: u64, seed: u64) {
     let mut longest = (0.0, 0, 0);
     let mut circuit = grown(&mut rng, 20);
     let begun = std::time::Instant::now();
-    let (mut damaged, mut turn) = (0, 0);
+    let (mut damaged, mut turn, mut fills) = (0, 0, 0);
     while damaged < most {
         if turn % 50 == 0 {
             let nodes = if turn % 100_000 == 0 { 500 + rng.below(3500) } else { 1 + rng.below(40) };
             circuit = grown(&mut rng, nodes as u64);
         }
-        let which = rng.below(NAMES.len());
+        // Few circuits have new columns: those are filled more often than others.
+        let lowered = circuit.lists.iter().any(|list| !list.is_empty());
+        let which = if lowered && rng.percent(40) { FILLS + rng.below(2) } else { rng.below(NAMES.len()) };
         let (mut slices, arguments) = prepared(&mut rng, which, &circuit);
         damaged += u64::from(slices.m.words() != circuit.m);
         let before = slices.clone();
@@ -491,6 +496,8 @@ pub fn fuzz(most: u64, seed: u64) {
             std::process::exit(1);
         }
         *told.entry((which, number)).or_default() += 1;
+        let columns = slices.ids.len() + slices.others.len();
+        fills += u64::from(which >= FILLS && number == 0 && columns > 0);
         turn += 1;
     }
     for (which, name) in NAMES.iter().enumerate() {
@@ -499,7 +506,7 @@ pub fn fuzz(most: u64, seed: u64) {
     }
     let refused: u64 = told.iter().filter(|((_, number), _)| *number != 0).map(|(_, count)| count).sum();
     println!(
-        "calls {turn}, of them {damaged} on damaged circuits, refused {refused}, wrong 0, longest {:.3} ms ({}, {} nodes), {:.0} seconds in all",
+        "calls {turn}, of them {damaged} on damaged circuits, refused {refused}, fills of new columns {fills}, wrong 0, longest {:.3} ms ({}, {} nodes), {:.0} seconds in all",
         longest.0 * 1e3,
         NAMES[longest.1],
         longest.2,
