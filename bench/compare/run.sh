@@ -52,3 +52,7 @@ for circuit in "products 1500 8" "selectors 1200 12"; do
         for span in span_lower_rust span_lower_ours; do count $span=$target $circuit; done
     done
 done
+# 200 rows and what is done once a call.
+for circuit in "products 2000 8" "selectors 1200 12"; do
+    for span in span_fill_rust span_fill_ours; do count $span $circuit; done
+done

@@ -1,8 +1,8 @@
 //! Constraint circuits over the proved library Atzunelca.
 //!
 //! Constraints are sums and products over columns, constants and challenges. Equal nodes are shared, and [`Circuit::lower`] brings the degree of a
-//! list of constraints down to a target by adding columns, each with a constraint of its own. What each call answers is proved against executable
-//! definitions; this crate only passes slices and gives the answers types.
+//! list of constraints down to a target by adding columns, each with a constraint of its own. [`Circuit::fill_rows`] fills those columns of a trace.
+//! What each call answers is proved against executable definitions; this crate only passes slices and gives the answers types.
 //!
 //! ```
 //! use atzunelca::{Circuit, Row, RowKind};

@@ -76,25 +76,48 @@ fn lower(circuit: &str, target: u64, turns: usize) {
 /// So many rows are filled, and one more is read.
 const ROWS: usize = 200;
 
-/// New columns of a trace after a lowering to 2. The line has the number of new columns, microseconds a row, and rows a second.
-fn fill(circuit: &str, turns: usize) {
-    let both = Both::new(&shapes::calls(circuit));
-    let mut lowered = ours::Lowering::new(&both.m, &both.root_ids());
-    match ours::span_lower_ours(&mut lowered, 2, MAINS, AUXS) {
-        0 => (),
-        refused => return eprintln!("{circuit} can't be lowered: {refused}"),
+/// A circuit lowered to 2 on both sides, and rows whose new columns are to be filled.
+struct Filling {
+    both: Both,
+    lowered: ours::Lowering,
+    lists: [Vec<rust::Node>; 2],
+}
+
+impl Filling {
+    /// None where the lowering is refused: it wants three free places for each node of degree above 1.
+    fn new(circuit: &str) -> Option<Self> {
+        let both = Both::new(&shapes::calls(circuit));
+        let mut lowered = ours::Lowering::new(&both.m, &both.root_ids());
+        if ours::span_lower_ours(&mut lowered, 2, MAINS, AUXS) != 0 {
+            return None;
+        }
+        let (main, aux) = rust::span_lower_rust(&mut both.root_nodes(), 2);
+        Some(Filling { both, lowered, lists: [main, aux] })
     }
-    let (main, aux) = rust::span_lower_rust(&mut both.root_nodes(), 2);
-    let trace = || rust::Trace::new(&main, &aux, ROWS + 1);
-    let (mut theirs, mut lent) = (trace(), trace().lent());
+
+    fn trace(&self) -> rust::Trace {
+        rust::Trace::new(&self.lists[0], &self.lists[1], ROWS + 1)
+    }
+
+    fn ours(&self, trace: &mut ours::Lent) {
+        ours::span_fill_ours(&self.lowered, MAINS, AUXS, ROWS as u64 + 1, trace);
+    }
+}
+
+/// The line has the number of new columns, microseconds a row, and rows a second.
+fn fill(circuit: &str, turns: usize) {
+    let Some(filling) = Filling::new(circuit) else { return eprintln!("{circuit}: its lowering is refused") };
+    let (mut theirs, mut lent) = (filling.trace(), filling.trace().lent());
     rust::span_fill_rust(&mut theirs);
-    let fill_ours = |lent: &mut ours::Lent| ours::span_fill_ours(&lowered, MAINS, AUXS, ROWS as u64 + 1, lent);
-    fill_ours(&mut lent);
+    filling.ours(&mut lent);
     assert!(theirs.lent() == lent, "another filling");
-    let seconds = least(turns, [run(trace, rust::span_fill_rust), run(|| trace().lent(), fill_ours)]);
-    let columns = main.len() + aux.len();
+    let seconds = least(
+        turns,
+        [run(|| filling.trace(), rust::span_fill_rust), run(|| filling.trace().lent(), |trace| filling.ours(trace))],
+    );
     let [rust, ours] = seconds.map(|s| s / ROWS as f64);
-    line("fill", circuit, both.used(), columns, &[rust, ours, 1e-6 / rust, 1e-6 / ours]);
+    let columns = filling.lists.iter().map(Vec::len).sum();
+    line("fill", circuit, filling.both.used(), columns, &[rust, ours, 1e-6 / rust, 1e-6 / ours]);
 }
 
 /// One span alone, for callgrind to count between its entry and its return.
@@ -117,6 +140,11 @@ pub fn once(what: &str, circuit: &str) {
         "span_lower_ours" => {
             let both = Both::new(&calls);
             ours::span_lower_ours(&mut ours::Lowering::new(&both.m, &both.root_ids()), target, MAINS, AUXS);
+        }
+        "span_fill_rust" => rust::span_fill_rust(&mut Filling::new(circuit).expect("lowered").trace()),
+        "span_fill_ours" => {
+            let filling = Filling::new(circuit).expect("lowered");
+            filling.ours(&mut filling.trace().lent());
         }
         _ => panic!("no span {what}"),
     }
