@@ -1,14 +1,14 @@
 -- A line that opens neither 0b nor 0c is answered as document 01's frame program answers it, and leaves its state. Assumes nothing.
 use Prim.Native.Nat.{ℕ}
-use mathlib.Core.Path.{_≡_, refl, sym, ap, _∙_}
+use mathlib.Core.Path.{_≡_, refl, ap, _∙_}
 use mathlib.Core.Bool.{Bool, true, false}
 use mathlib.Core.List.{List, [], _∷_, _++_}
 use lib.Dec.{eqb}
-use Rattle.layout.specs.Lists.{if_then_else_, all}
+use Rattle.layout.specs.Lists.{if_then_else_}
 use Rattle.layout.specs.Words.{rowKind}
 use Rattle.framing.specs.Frames.{lineAnswer, answerLine, lines, answers, frames}
 use Rattle.desk.specs.Desks.{Desk, freshDesk}
-use Rattle.desk.specs.Lines.{Told, told, frameTold, challengesTold, rowAnswer, opens, lineTold}
+use Rattle.desk.specs.Lines.{Told, frameTold, opens, lineTold}
 use Rattle.desk.specs.Program.{toldLine, linesTold, fill}
 
 -- neither 0b nor 0c

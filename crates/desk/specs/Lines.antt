@@ -2,7 +2,7 @@
 use Prim.Native.Nat.{ℕ, _+_, _*_, _/_}
 use mathlib.Core.Bool.{Bool, _&&_, _||_, not}
 use mathlib.Core.List.{List, [], _∷_, _++_}
-use lib.ListN.{length, getD, take, drop}
+use lib.ListN.{length, getD, take}
 use lib.Dec.{ltb, eqb}
 use Rattle.layout.specs.Lists.{if_then_else_, all, any}
 use Rattle.layout.specs.Words.{rowKind}
@@ -10,7 +10,7 @@ use Rattle.layout.specs.NotCircuit.{badWord}
 use Rattle.layout.specs.Outcomes.{Outcome, refusal}
 use Rattle.framing.specs.Digits.{isDigit, bytesOf}
 use Rattle.framing.specs.Requests.{requestOf}
-use Rattle.framing.specs.Answers.{Replied, replied, replyBytes, FRAME}
+use Rattle.framing.specs.Answers.{replied, replyBytes, FRAME}
 use Rattle.filling.specs.Tables.{elementWords}
 use Rattle.filling.specs.Promise.{newMain, newAux}
 use Rattle.filling.specs.Calls.{fillCall}

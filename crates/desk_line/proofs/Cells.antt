@@ -4,7 +4,7 @@ use mathlib.Core.Path.{_≡_, refl, sym, ap, _∙_}
 use mathlib.Core.List.{List, [], _∷_, _++_, append-assoc, append-nil}
 use native.Mathlib.Numerals.{add-one}
 use native.Mathlib.Omega.{arith}
-use lib.ListN.{length, set, take, replicate, replicate-append-replicate, length-append, length-replicate}
+use lib.ListN.{length, set, take, replicate, replicate-append-replicate}
 use lib.Seq.{take-suc-set}
 use Rattle.framing.specs.Digits.{numberAt}
 use Rattle.desk.specs.Words.{wordsAt, rowAt, rowsAt}

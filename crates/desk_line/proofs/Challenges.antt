@@ -1,23 +1,20 @@
 -- Laws of a line of challenges. Assumes nothing.
-use Prim.Native.Nat.{ℕ, zero, suc, _+_, _-_, _*_, _/_, _<_, _≤_}
+use Prim.Native.Nat.{ℕ, suc, _+_, _-_, _*_, _/_, _<_, _≤_}
 use mathlib.Core.Path.{_≡_, refl, sym, ap, _∙_}
 use mathlib.Core.Bool.{Bool, true, false, _&&_, _||_, not, false≢true}
-use mathlib.Core.List.{List, [], _∷_, _++_}
+use mathlib.Core.List.{List, [], _∷_}
 use native.Mathlib.Omega.{arith}
-use lib.ListN.{length, take}
+use lib.ListN.{length}
 use lib.Dec.{ltb, leb, eqb}
-use borrow.Author.Tests.{ltb-false, lt-ltb, le-ltb, leb-true, leb-false, le-leb, lt-leb, eqb-true, eq-eqb, ne-eqb}
-use Rattle.layout.specs.Lists.{if_then_else_, all, any}
+use borrow.Author.Tests.{ltb-false, lt-ltb, le-ltb, leb-true, leb-false, eq-eqb, ne-eqb}
+use Rattle.layout.specs.Lists.{all, any}
 use Rattle.layout.specs.NotCircuit.{badWord}
 use Rattle.layout.proofs.Lists.{and-true}
 use Rattle.framing.specs.Digits.{isDigit, bytesOf, numberAt}
 use Rattle.framing.specs.Answers.{FRAME}
-use Rattle.framing.specs.States.{State}
-use Rattle.desk.specs.declared.Latest.{Latest}
 use Rattle.desk.specs.Words.{wordsAt}
 use Rattle.desk.specs.Desks.{Desk, desk}
-use Rattle.desk.specs.Lines.{Told, told, tooMany, isChallenges, challengesTold}
-use Rattle.desk_line.specs.Reading.{Stored}
+use Rattle.desk.specs.Lines.{told, tooMany, isChallenges, challengesTold}
 
 -- what is left of the words decides
 pub record Left (n k after : ℕ) (bs : List ℕ) : Type 0 where

@@ -1,18 +1,18 @@
 -- Laws of a row that is filled, and of its answer. Assumes nothing.
-use Prim.Native.Nat.{ℕ, zero, suc, _+_, _-_, _*_, _<_, _≤_}
+use Prim.Native.Nat.{ℕ, zero, suc, _+_, _-_, _*_, _≤_}
 use mathlib.Core.Path.{_≡_, refl, sym, ap, _∙_}
 use mathlib.Core.Bool.{Bool, true, false}
 use mathlib.Core.List.{List, [], _∷_, _++_}
 use native.Mathlib.Omega.{arith}
-use lib.ListN.{length, take, drop, length-append, length-take, length-drop}
-use lib.Seq.{sets, take-all, take-take, take-append-le, take-at, length-take-le}
+use lib.ListN.{length, take, drop, length-append, length-take}
+use lib.Seq.{take-take, take-at}
 use lib.Dec.{eqb}
 use borrow.Author.Tests.{eq-eqb, ne-eqb, eqb-true}
 use Rattle.layout.specs.Lists.{if_then_else_}
 use Rattle.layout.specs.Words.{rowKind}
 use Rattle.layout.specs.Outcomes.{Outcome}
 use Rattle.framing.specs.Digits.{bytesOf, hexadecimal}
-use Rattle.framing.specs.States.{State, lent}
+use Rattle.framing.specs.States.{lent}
 use Rattle.frame.specs.Puts.{Put}
 use Rattle.frame.proofs.Writing.{put-then, length-hexadecimal}
 use Rattle.filling.specs.declared.Filled.{Filled}

@@ -1,17 +1,16 @@
 -- Laws of a line and its answer. Assumes nothing.
-use Prim.Native.Nat.{ℕ, zero, suc, _+_, _≤_}
+use Prim.Native.Nat.{ℕ, zero, suc, _≤_}
 use mathlib.Core.Path.{_≡_, refl, sym, ap, _∙_}
-use mathlib.Core.Bool.{Bool, true, false, _&&_}
+use mathlib.Core.Bool.{Bool, true, false}
 use mathlib.Core.List.{List, [], _∷_, _++_}
 use native.Mathlib.Omega.{arith}
-use lib.ListN.{length, getD, take, List·getD-eq-default}
-use lib.Seq.{sets}
+use lib.ListN.{length, getD, List·getD-eq-default}
 use lib.Dec.{eqb}
 use borrow.Author.Tests.{eq-eqb, ne-eqb, eqb-false}
 use Rattle.layout.specs.Lists.{if_then_else_}
 use Rattle.layout.specs.Words.{rowKind}
 use Rattle.framing.specs.declared.Reply.{Reply}
-use Rattle.framing.specs.declared.Reply.the-variants.{Bare, Id, Counts}
+use Rattle.framing.specs.declared.Reply.the-variants.{Counts}
 use Rattle.framing.specs.declared.Request.{Request}
 use Rattle.framing.specs.declared.Request.the-variants.{Lower}
 use Rattle.framing.specs.Digits.{hexadecimal}

@@ -1,6 +1,4 @@
-use Prim.Native.Nat.{ℕ, _+_, _-_, _*_, _≤_}
-use mathlib.Core.Path.{_≡_, refl, sym, ap, _∙_}
-use native.Mathlib.Omega.{arith}
+use mathlib.Core.Path.{sym, _∙_}
 use Rattle.desk_line.proofs.Lines.{kind-unstarted, kind-other-first, kind-challenges, kind-row, kind-other}
 use borrow.Author.Needs.{needs}
 use Rattle.desk_line.proofs.calls.line_kind.Statement.{statement}

@@ -1,5 +1,3 @@
-use Prim.Native.Nat.{ℕ, _+_, _-_, _*_, _≤_}
-use mathlib.Core.Path.{_≡_, refl, sym, ap, _∙_}
 use native.Mathlib.Omega.{arith}
 use Rattle.desk_line.proofs.Widths.{whole-list}
 use borrow.Author.Needs.{needs}

@@ -1,5 +1,4 @@
-use Prim.Native.Nat.{ℕ, _+_, _-_, _*_, _≤_}
-use mathlib.Core.Path.{_≡_, refl, sym, ap, _∙_}
+use Prim.Native.Nat.{_*_}
 use native.Mathlib.Omega.{arith}
 use Rattle.frame.proofs.Writing.{byte-behind}
 use Rattle.desk_line.proofs.Fills.{part-is, part-short, words-put-behind, row-refused-put, row-put}

@@ -1,6 +1,3 @@
-use Prim.Native.Nat.{ℕ, _+_, _-_, _*_, _≤_}
-use mathlib.Core.Path.{_≡_, refl, sym, ap, _∙_}
-use native.Mathlib.Omega.{arith}
 use Rattle.desk_line.proofs.Widths.{many-old, many-new}
 use Rattle.desk_line.proofs.row.too_many.Statement.{statement}
 use Rattle.desk_line.proofs.row.too_many.Tie as tie

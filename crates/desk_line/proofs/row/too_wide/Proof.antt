@@ -1,6 +1,3 @@
-use Prim.Native.Nat.{ℕ, _+_, _-_, _*_, _≤_}
-use mathlib.Core.Path.{_≡_, refl, sym, ap, _∙_}
-use native.Mathlib.Omega.{arith}
 use Rattle.desk_line.proofs.Widths.{wide-main, wide-aux}
 use borrow.Author.Needs.{needs}
 use Rattle.desk_line.proofs.row.too_wide.Statement.{statement}
