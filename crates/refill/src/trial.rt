@@ -38,9 +38,16 @@ pub(crate) struct Shape {
     pub(crate) auxs: u64,
 }
 
-// How many words a row has.
+// How many words a row has: the old columns and the new ones. A lowering without a new column may be given any count, also one below the columns that
+// the roots read: its rows have eight at least.
 fn main_row(s: Shape) -> usize {
-    std::num::wrapping_add_u64(s.main, s.mains) as usize
+    let n = std::num::wrapping_add_u64(s.main, s.mains) as usize;
+    if s.mains == 0 {
+        if n < 8 {
+            return 8;
+        }
+    }
+    n
 }
 
 fn aux_row(s: Shape) -> usize {
