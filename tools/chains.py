@@ -7,14 +7,14 @@ import re
 import sys
 from pathlib import Path
 
+ROOT = Path(__file__).resolve().parents[1]
 RECORD = re.compile(r"pub record ([\w-]+) : Type 0 where\n((?:[ ]+pub .*\n)+)")
 NEED = re.compile(r"abbrev pub (Need-[\w-]+) : [^\n]*\n\s+\1[^=]*=([^\n]*(?:\n[^\n]*){0,6})")
 
 
-def main():
-    crate, function = sys.argv[1:]
-    root = Path(__file__).resolve().parents[1]
-    text = (root / f"target/goals/{crate}/Rattle.{crate}.proofs/proofs/{function}/Lts.antt").read_text()
+def chains(crate, function):
+    """For each need the fields at each depth, the nearest first."""
+    text = (ROOT / f"target/goals/{crate}/Rattle.{crate}.proofs/proofs/{function}/Lts.antt").read_text()
     records = {}
     for name, body in RECORD.findall(text):
         before = re.search(r"pub before : ([\w-]+)", body)
@@ -22,12 +22,16 @@ def main():
         records[name] = (before.group(1) if before else None, fields)
     for need, body in NEED.findall(text):
         start = re.search(r"\(c : ([\w-]+)[ )]", body) or re.search(r"\(\w+ : (After-[\w-]+|Start)", body)
-        name, depth, chain = start.group(1) if start else None, 0, []
+        name, depths = start.group(1) if start else None, []
         while name in records:
             name, fields = records[name]
-            chain.append(f"{depth}:{','.join(fields)}")
-            depth += 1
-        print(need, *chain)
+            depths.append(fields)
+        yield need, depths
+
+
+def main():
+    for need, depths in chains(*sys.argv[1:]):
+        print(need, *(f"{depth}:{','.join(fields)}" for depth, fields in enumerate(depths)))
 
 
 if __name__ == "__main__":

@@ -19,30 +19,12 @@ import re
 import sys
 from pathlib import Path
 
-ROOT = Path(__file__).resolve().parents[1]
-RECORD = re.compile(r"pub record ([\w-]+) : Type 0 where\n((?:[ ]+pub .*\n)+)")
-NEED = re.compile(r"abbrev pub (Need-[\w-]+) : [^\n]*\n\s+\1[^=]*=([^\n]*(?:\n[^\n]*){0,6})")
+from chains import ROOT, chains
 
 
 def facts(crate, function):
-    """For each need, how many `.before`s lead to each field."""
-    text = (ROOT / f"target/goals/{crate}/Rattle.{crate}.proofs/proofs/{function}/Lts.antt").read_text()
-    records = {}
-    for name, body in RECORD.findall(text):
-        before = re.search(r"pub before : ([\w-]+)", body)
-        fields = [field for field in re.findall(r"pub ([\w-]+) :", body) if field != "before"]
-        records[name] = (before.group(1) if before else None, fields)
-    found = {}
-    for need, body in NEED.findall(text):
-        start = re.search(r"\(c : ([\w-]+)[ )]", body) or re.search(r"\(\w+ : (After-[\w-]+|Start)", body)
-        name, depth, depths = start.group(1) if start else None, 0, {}
-        while name in records:
-            name, fields = records[name]
-            for field in fields:
-                depths.setdefault(field, depth)
-            depth += 1
-        found[need[5:]] = depths
-    return found
+    """For each need, how many `.before`s lead to each field: to the nearest of that name."""
+    return {need[5:]: {field: depth for depth, fields in reversed(list(enumerate(depths))) for field in fields} for need, depths in chains(crate, function)}
 
 
 def skeletons(log):
