@@ -9,7 +9,7 @@ from pathlib import Path
 
 ROOT = Path(__file__).resolve().parents[1]
 RECORD = re.compile(r"pub record ([\w-]+) : Type 0 where\n((?:[ ]+pub .*\n)+)")
-NEED = re.compile(r"abbrev pub (Need-[\w-]+) : [^\n]*\n\s+\1[^=]*=([^\n]*(?:\n[^\n]*){0,6})")
+NEED = re.compile(r"abbrev pub (Need-[\w-]+) : [^\n]*\n\s+\1[^=]*=([^\n]*(?:\n[^\n]+){0,6})")
 
 
 def chains(crate, function):

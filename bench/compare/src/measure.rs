@@ -74,7 +74,7 @@ fn lower(circuit: &str, target: u64, turns: usize) {
 }
 
 /// So many rows are filled, and one more is read.
-const ROWS: usize = 200;
+const ROWS: usize = 1000;
 
 /// A circuit lowered to 2 on both sides, and rows whose new columns are to be filled.
 struct Filling {

@@ -60,6 +60,10 @@ tooWide l = tooMany (l .«main_count» + l .mains) || tooMany (l .«aux_count» 
 unfoldable pub isRows : Latest → ℕ → List ℕ → Bool
 isRows l rows line = all isDigit line && eqb (length line) (2 * (1 + rows * rowBytes l))
 
+-- a dual-row circuit is given two rows
+unfoldable pub rowsGiven : List ℕ → ℕ
+rowsGiven m = if eqb (rowKind m) 2 then 2 else 1
+
 -- the tables that fill is asked with: this row, and in a dual-row circuit the next
 abbrev pub mainRows : Latest → ℕ → List ℕ → List ℕ
 mainRows l rows bs = rowsAt (l .«main_count») (l .mains) 1 (rowBytes l) bs rows
@@ -72,7 +76,7 @@ unfoldable pub fillOf : Desk → List ℕ → Outcome (Unit {0}) (List ℕ × Li
 fillOf d line =
     let l = d .latest in
     let m = d .state .circuit in
-    fillCall (l .«main_count») (l .«aux_count») m (take (l .mains) (d .state .main)) (take (l .auxs) (d .state .aux)) (d .challenges) (mainRows l (rowKind m) (bytesOf line)) (auxRows l (rowKind m) (bytesOf line))
+    fillCall (l .«main_count») (l .«aux_count») m (take (l .mains) (d .state .main)) (take (l .auxs) (d .state .aux)) (d .challenges) (mainRows l (rowsGiven m) (bytesOf line)) (auxRows l (rowsGiven m) (bytesOf line))
 
 -- the refusal's number, or 0 then each new main value and each new auxiliary value of this row
 unfoldable pub fillBytes : Latest → Outcome (Unit {0}) (List ℕ × List ℕ) → List ℕ
@@ -85,7 +89,7 @@ rowRefusal l rows line = refusal ((FRAME, not (l .lowered)) ∷ (13, tooWide l) 
 -- 0c, then the old cells of this row, and in a dual-row circuit of the next; else what fill answers
 unfoldable pub rowAnswer : Desk → List ℕ → List ℕ
 rowAnswer d line =
-    let n = rowRefusal (d .latest) (rowKind (d .state .circuit)) line in
+    let n = rowRefusal (d .latest) (rowsGiven (d .state .circuit)) line in
     let filled = fillBytes (d .latest) (fillOf d line) in
     if eqb n 0 then filled else n ∷ []
 

@@ -24,12 +24,12 @@ use Rattle.filling.specs.Calls.{fillCall}
 use Rattle.desk.specs.declared.Latest.{Latest}
 use Rattle.desk.specs.Words.{eights}
 use Rattle.desk.specs.Desks.{Desk, desk}
-use Rattle.desk.specs.Lines.{mainRows, auxRows, fillOf, fillBytes, rowRefusal, rowAnswer}
+use Rattle.desk.specs.Lines.{rowsGiven, mainRows, auxRows, fillOf, fillBytes, rowRefusal, rowAnswer}
 use Rattle.desk_line.specs.Reading.{Stored, OneOrTwo}
 use Rattle.desk_line.specs.Rows.{Narrow, mainWords, auxWords, fillNumber, filledAs, TablesFilled}
 use Rattle.desk_line.proofs.Cells.{stored-front}
 use Rattle.desk_line.proofs.Texts.{wordsText, words-append, length-eights, length-words}
-use Rattle.desk_line.proofs.Widths.{at-most-two, at-least-one, row-narrow}
+use Rattle.desk_line.proofs.Widths.{at-most-two, at-least-one, rows-given, row-narrow}
 
 -- a fill's number, and its tables
 told-parts : (r : Filled) (t : List ℕ × List ℕ) (o : Outcome (Unit {0}) (List ℕ × List ℕ)) → toldFill r t ≡ o → (fillNumber r ≡ o .number) × (t ≡ o .lent)
@@ -119,22 +119,25 @@ bytes-same l o n w v main aux filled h i =
     rw (filled .number, e, f)
 
 -- what a row is answered
-module _ (l : Latest) (m main aux challenges line roots : List ℕ) (K n : ℕ) (kind : K ≡ rowKind m) (number : n ≡ rowRefusal l K line) where
+module _ (l : Latest) (m main aux challenges line roots : List ℕ) (K n : ℕ) (kind : K ≡ rowKind m) (rows : OneOrTwo (rowKind m)) (number : n ≡ rowRefusal l K line) where
   abbrev d : Desk
   d = desk (lent m roots main aux) l challenges
 
   abbrev Answered : List ℕ → List ℕ → ℕ → Type 0
   Answered at at′ k = Put at 0 (hexadecimal (rowAnswer d line)) at′ k
 
-  number-is : n ≡ rowRefusal l (rowKind m) line
-  number-is = number ∙ ap (λ (q : ℕ). rowRefusal l q line) kind
+  given-is : K ≡ rowsGiven m
+  given-is = kind ∙ sym (rows-given m rows)
+
+  number-is : n ≡ rowRefusal l (rowsGiven m) line
+  number-is = number ∙ ap (λ (q : ℕ). rowRefusal l q line) given-is
 
   pub row-refused : (n ≡ 0 → ⊥) → {at at′ : List ℕ} {k : ℕ} → Put at 0 (hexadecimal (n ∷ [])) at′ k → Answered at at′ k
   unfolding rowAnswer
   row-refused h p = rw (← number-is, ne-eqb n 0 h) p
 
   pub its-narrow : n ≡ 0 → Narrow l
-  its-narrow z = row-narrow l (rowKind m) line (sym number-is ∙ z)
+  its-narrow z = row-narrow l (rowsGiven m) line (sym number-is ∙ z)
 
   answer-filled : n ≡ 0 → rowAnswer d line ≡ fillBytes l (fillOf d line)
   unfolding rowAnswer
@@ -144,14 +147,13 @@ module _ (l : Latest) (m main aux challenges line roots : List ℕ) (K n : ℕ) 
     fill-same : fillCall (l .«main_count») (l .«aux_count») m (take (l .mains) main) (take (l .auxs) aux) challenges (take (mainWords l (rowKind m)) rm₁) (take (auxWords l (rowKind m)) ra₁) ≡ fillOf d line
     unfolding fillOf
     fill-same =
-        let e : take (mainWords l (rowKind m)) rm₁ ≡ mainRows l (rowKind m) (bytesOf line) = rw (sym kind) (stored-front rm₀ rm₁ (mainWords l K) (mainRows l K (bytesOf line)) read-main) in
-        let g : take (auxWords l (rowKind m)) ra₁ ≡ auxRows l (rowKind m) (bytesOf line) = rw (sym kind) (stored-front ra₀ ra₁ (auxWords l K) (auxRows l K (bytesOf line)) read-aux) in
+        let e : take (mainWords l (rowKind m)) rm₁ ≡ mainRows l (rowsGiven m) (bytesOf line) = rw (sym kind, sym given-is) (stored-front rm₀ rm₁ (mainWords l K) (mainRows l K (bytesOf line)) read-main) in
+        let g : take (auxWords l (rowKind m)) ra₁ ≡ auxRows l (rowsGiven m) (bytesOf line) = rw (sym kind, sym given-is) (stored-front ra₀ ra₁ (auxWords l K) (auxRows l K (bytesOf line)) read-aux) in
         rw (e, g)
 
-    pub row-answered : OneOrTwo (rowKind m)
-        → TablesFilled (fillCall (l .«main_count») (l .«aux_count») m (take (l .mains) main) (take (l .auxs) aux) challenges (take (mainWords l (rowKind m)) rm₁) (take (auxWords l (rowKind m)) ra₁)) f (mainWords l (rowKind m)) (auxWords l (rowKind m)) rm₂ ra₂
+    pub row-answered : TablesFilled (fillCall (l .«main_count») (l .«aux_count») m (take (l .mains) main) (take (l .auxs) aux) challenges (take (mainWords l (rowKind m)) rm₁) (take (auxWords l (rowKind m)) ra₁)) f (mainWords l (rowKind m)) (auxWords l (rowKind m)) rm₂ ra₂
         → {at at′ : List ℕ} {k : ℕ} → Put at 0 (hexadecimal (fillBytes l (filledAs f rm₂ ra₂))) at′ k → Answered at at′ k
-    row-answered rows filled {at} {at′} {k} p =
+    row-answered filled {at} {at′} {k} p =
         let e : fillBytes l (filledAs f rm₂ ra₂) ≡ rowAnswer d line =
         bytes-same l _ f (mainWords l (rowKind m)) (auxWords l (rowKind m)) rm₂ ra₂ filled (at-least-one (rowKind m) (l .«main_count» + l .mains) rows) (at-least-one (rowKind m) (elementWords * l .«aux_count» + elementWords * l .auxs) rows)
         ∙ ap (fillBytes l) fill-same ∙ sym (answer-filled z) in
@@ -174,13 +176,13 @@ fill-short l o n = go (eqb (o .number) 0)
 
 pub row-short : (d : Desk) (line : List ℕ) → length (rowAnswer d line) ≤ 32769
 unfolding rowAnswer
-row-short d line = go (eqb (rowRefusal (d .latest) (rowKind (d .state .circuit)) line) 0) refl
+row-short d line = go (eqb (rowRefusal (d .latest) (rowsGiven (d .state .circuit)) line) 0) refl
   where
     n : ℕ
-    n = rowRefusal (d .latest) (rowKind (d .state .circuit)) line
+    n = rowRefusal (d .latest) (rowsGiven (d .state .circuit)) line
 
     go : (b : Bool) → eqb n 0 ≡ b → length (if b then fillBytes (d .latest) (fillOf d line) else n ∷ []) ≤ 32769
-    go true e = fill-short (d .latest) (fillOf d line) (row-narrow (d .latest) (rowKind (d .state .circuit)) line (eqb-true n 0 e))
+    go true e = fill-short (d .latest) (fillOf d line) (row-narrow (d .latest) (rowsGiven (d .state .circuit)) line (eqb-true n 0 e))
     go false e = omega arith
 
 pub row-behind : (d : Desk) (line : List ℕ) {out out′ : List ℕ} {k : ℕ} → Put out 0 (hexadecimal (rowAnswer d line)) out′ k → k ≤ 65538

@@ -5,3 +5,5 @@ pub mod Widths
 pub mod Challenges
 pub mod Fills
 pub mod Lines
+pub mod Longest
+pub mod Feeding

@@ -7,15 +7,16 @@ use native.Mathlib.Omega.{arith}
 use lib.ListN.{length, take}
 use lib.Seq.{take-all}
 use lib.Dec.{ltb, eqb}
-use borrow.Author.Tests.{ltb-true, ltb-false, lt-ltb}
-use Rattle.layout.specs.Lists.{all}
+use borrow.Author.Tests.{ltb-true, ltb-false, lt-ltb, eqb-true, eqb-false}
+use Rattle.layout.specs.Lists.{if_then_else_, all}
+use Rattle.layout.specs.Words.{rowKind}
 use Rattle.layout.proofs.Lists.{same-test, or-left}
 use Rattle.layout.proofs.Tests.{neither}
 use Rattle.layout.proofs.Refusals.{refusal-none, refusal-here, refusal-next}
 use Rattle.framing.specs.Digits.{isDigit}
 use Rattle.framing.specs.Answers.{FRAME}
 use Rattle.desk.specs.declared.Latest.{Latest}
-use Rattle.desk.specs.Lines.{tooMany, tooWide, rowBytes, isRows, rowRefusal}
+use Rattle.desk.specs.Lines.{tooMany, tooWide, rowBytes, isRows, rowsGiven, rowRefusal}
 use Rattle.desk_line.specs.Reading.{OneOrTwo}
 use Rattle.desk_line.specs.Rows.{Narrow}
 
@@ -55,6 +56,14 @@ pub one-of : (rows n : ℕ) → OneOrTwo rows → (rows ≡ 2 → ⊥) → n ≡
 one-of rows n k h =
     let e : rows ≡ 1 = omega (arith, k .some, k .few) in
     rw e (omega arith)
+
+pub rows-given : (m : List ℕ) → OneOrTwo (rowKind m) → rowsGiven m ≡ rowKind m
+unfolding rowsGiven
+rows-given m k = go (eqb (rowKind m) 2) refl
+  where
+    go : (b : Bool) → eqb (rowKind m) 2 ≡ b → (if b then 2 else 1) ≡ rowKind m
+    go true e = sym (eqb-true (rowKind m) 2 e)
+    go false e = let h = eqb-false (rowKind m) 2 e in omega (arith, k .some, k .few, h)
 
 pub at-most-two : (rows n : ℕ) → OneOrTwo rows → rows * n ≤ 2 * n
 at-most-two zero n k = omega arith

@@ -2,3 +2,4 @@
 pub mod Reading
 pub mod Rows
 pub mod Kinds
+pub mod Feeds

@@ -14,7 +14,8 @@ ghost use Prim.Native.Nat.{_≤_};
 ghost use lib.ListN.{length, take};
 ghost use Rattle.framing.specs.States.{lent};
 ghost use Rattle.kept.specs.Keeps.{Keeps};
-ghost use Rattle.stream.specs.Stream.{stream, room, Roomy, Poured};
+ghost use Rattle.stream.specs.Stream.{stream, Roomy, Poured};
+ghost use Rattle.stream.specs.Frames.{framesProgram, room};
 
 const PART: usize = 65536;
 
@@ -32,8 +33,8 @@ fn pour(
     part: &[u8],
     out: &mut [u8],
 ) -> usize
-    requires { ⌜ Roomy (now line) kept (now main) (now aux) (now out) 0 × Keeps (now m) (now numbers) (now table) (now least) ⌝ }
-    ensures { λ r. ⌜ Poured (stream (lent (now (m .entry)) (now (roots .entry)) (now (main .entry)) (now (aux .entry))) (take kept (now (line .entry)))) (now (part .entry)) (lent (now (m .exit)) (now (roots .exit)) (now (main .exit)) (now (aux .exit))) (now (line .exit)) r × Keeps (now (m .exit)) (now (numbers .exit)) (now (table .exit)) (now (least .exit)) ⌝ }
+    requires { ⌜ Roomy 51 (now line) kept (room (now main) (now aux)) (now out) 0 × Keeps (now m) (now numbers) (now table) (now least) ⌝ }
+    ensures { λ r. ⌜ Poured framesProgram (stream (lent (now (m .entry)) (now (roots .entry)) (now (main .entry)) (now (aux .entry))) (take kept (now (line .entry)))) (now (part .entry)) (lent (now (m .exit)) (now (roots .exit)) (now (main .exit)) (now (aux .exit))) (now (line .exit)) r × Keeps (now (m .exit)) (now (numbers .exit)) (now (table .exit)) (now (least .exit)) ⌝ }
 {
     let mut count = kept;
     let mut from: usize = 0;
@@ -93,7 +94,7 @@ fn serve(
     part: &mut [u8],
     out: &mut [u8],
 )
-    requires { ⌜ Roomy (now line) 0 (now main) (now aux) (now out) 0 × Keeps (now m) (now numbers) (now table) (now least) ⌝ }
+    requires { ⌜ Roomy 51 (now line) 0 (room (now main) (now aux)) (now out) 0 × Keeps (now m) (now numbers) (now table) (now least) ⌝ }
 {
     let mut kept: usize = 0;
     // A proved loop has to end, and nothing says that the input does: no input takes so many turns.

@@ -1,3 +1,5 @@
-pub mod Long
 pub mod Streaming
+pub mod Gathering
 pub mod Feeding
+pub mod Long
+pub mod Whole

@@ -1,2 +1,3 @@
--- The frame program on its input.
+-- Programs on their input, and the frame program as one.
 pub mod Stream
+pub mod Frames

@@ -1,3 +1,4 @@
-// The frame program's work on its input, part by part: what `frames` does between reading and writing. Lines of any length and parts of any length,
-// in constant memory.
+// Programs that answer lines, on their input, part by part: lines of any length and parts of any length, in constant memory. `line` gathers a line;
+// `feed` is what the frame program does between reading and writing.
 pub mod feed;
+pub mod line;

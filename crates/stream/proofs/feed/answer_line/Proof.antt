@@ -1,6 +1,8 @@
 use native.Mathlib.Omega.{arith}
 use mathlib.Core.Path.{refl}
-use Rattle.stream.proofs.Feeding.{few-written, line-answered}
+use Rattle.stream.specs.Frames.{framesProgram}
+use Rattle.stream.proofs.Feeding.{line-answered}
+use Rattle.stream.proofs.Whole.{state-is, written-is, places-are, few-written}
 use borrow.Author.Needs.{needs}
 use Rattle.stream.proofs.feed.answer_line.Statement.{statement}
 use Rattle.stream.proofs.feed.answer_line.Tie as tie
@@ -45,7 +47,7 @@ same-length-8 : tie.Need-same-length-8
 same-length-8 c = search needs
 
 returns : tie.Need-returns
-returns c = (line-answered _ _ _ _ _ _ (c .before .before .before .before .before .before .before .before .before .before .before .before .before .before .before .before .frame .ensures .0) (c .before .before .before .before .before .before .before .before .before .before .before .before .before .before .before .before .frame .kept .1 .1 .0) (c .before .before .before .before .before .before .before .before .before .before .before .before .before .before .before .before .frame .kept .1 .1 .1 .0) _ _ refl (c .before .before .before .before .before .before .before .before .before .before .before .before .before .before .before .before .before .before .before .before .before .before .before .before .before .before .before .before .before .before .before .before .before .before .pre .0), c .before .before .before .before .before .before .before .before .before .before .before .before .before .before .before .before .frame .ensures .1)
+returns c = (line-answered framesProgram _ _ _ _ _ _ _ (state-is _ _ _ _ _ _ (c .before .before .before .before .before .before .before .before .before .before .before .before .before .before .before .before .frame .ensures .0)) (written-is _ _ _ _ _ _ (c .before .before .before .before .before .before .before .before .before .before .before .before .before .before .before .before .frame .ensures .0)) (places-are _ _ _ _ _ _ (c .before .before .before .before .before .before .before .before .before .before .before .before .before .before .before .before .frame .ensures .0)) (few-written _ _ _ _ _ _ (c .before .before .before .before .before .before .before .before .before .before .before .before .before .before .before .before .frame .ensures .0) (c .before .before .before .before .before .before .before .before .before .before .before .before .before .before .before .before .frame .kept .1 .1 .0) (c .before .before .before .before .before .before .before .before .before .before .before .before .before .before .before .before .frame .kept .1 .1 .1 .0)) _ _ refl (c .before .before .before .before .before .before .before .before .before .before .before .before .before .before .before .before .before .before .before .before .before .before .before .before .before .before .before .before .before .before .before .before .before .before .pre .0), c .before .before .before .before .before .before .before .before .before .before .before .before .before .before .before .before .frame .ensures .1)
 
 pub answer-line-spec : {M : Type 1} → statement M
 answer-line-spec =

@@ -1,17 +1,18 @@
 use Prim.Native.Nat.{_-_, _≤_}
 use mathlib.Core.Path.{_≡_, refl, _∙_}
 use native.Mathlib.Omega.{arith}
+use borrow.Author.Needs.{needs}
 use lib.ListN.{length, take}
 use Rattle.framing.specs.States.{lent}
 use Rattle.kept.specs.Keeps.{Keeps}
 use Rattle.stream.specs.Stream.{stream, fed, Advanced}
-use Rattle.stream.proofs.Feeding.{Lengths, none-fed, none-written, one-fed, some-taken}
-use borrow.Author.Needs.{needs}
+use Rattle.stream.specs.Frames.{framesProgram}
+use Rattle.stream.proofs.Feeding.{Lengths, none-fed, none-written, more-fed, some-taken, rest-length}
 use Rattle.stream.proofs.feed.feed.Statement.{statement}
 use Rattle.stream.proofs.feed.feed.Tie as tie
 
 abbrev Inv-loop : tie.InvT-loop
-Inv-loop m₀ roots₀ main₀ aux₀ numbers₀ table₀ least₀ line₀ kept part out₀ room s₀ taken₀ m roots main aux numbers table least line out s taken = Advanced (fed (stream (lent m₀ roots₀ main₀ aux₀) (take kept line₀)) (take taken part)) (lent m roots main aux) (take (s .kept) line) out₀ 0 out (s .at) × (Lengths m₀ roots₀ main₀ aux₀ numbers₀ table₀ least₀ line₀ out₀ m roots main aux numbers table least line out × ((s .kept ≤ 51) × ((taken ≤ length part) × Keeps m numbers table least)))
+Inv-loop m₀ roots₀ main₀ aux₀ numbers₀ table₀ least₀ line₀ kept part out₀ room s₀ taken₀ m roots main aux numbers table least line out s taken = Advanced (fed framesProgram (stream (lent m₀ roots₀ main₀ aux₀) (take kept line₀)) (take taken part)) (lent m roots main aux) (take (s .kept) line) out₀ 0 out (s .at) × (Lengths m₀ roots₀ main₀ aux₀ numbers₀ table₀ least₀ line₀ out₀ m roots main aux numbers table least line out × ((s .kept ≤ 51) × ((taken ≤ length part) × Keeps m numbers table least)))
 
 abbrev μ-loop : tie.MeasureT-loop
 μ-loop m₀ roots₀ main₀ aux₀ numbers₀ table₀ least₀ line₀ kept part out₀ room s₀ taken₀ m roots main aux numbers table least line out s taken = length part - taken
@@ -20,7 +21,7 @@ room-for-requires : tie.Need-room-for-requires Inv-loop μ-loop
 room-for-requires c κs = search needs
 
 loop-holds : tie.Need-loop-holds Inv-loop μ-loop
-loop-holds c = (none-fed _ (c .before .before .before .before .before .before .before .before .before .before .before .before .before .args .part .now) _ _ refl, (record { m-kept = refl; roots-kept = refl; main-kept = refl; aux-kept = refl; numbers-kept = refl; table-kept = refl; least-kept = refl; line-kept = refl; out-kept = refl }, (c .before .before .before .before .before .before .before .before .before .before .before .before .before .pre .0 .few, (omega arith, c .before .before .before .before .before .before .before .before .before .before .before .before .before .pre .1))))
+loop-holds c = (none-fed framesProgram _ (c .before .before .before .before .before .before .before .before .before .before .before .before .before .args .part .now) _ _ refl, (record { m-kept = refl; roots-kept = refl; main-kept = refl; aux-kept = refl; numbers-kept = refl; table-kept = refl; least-kept = refl; line-kept = refl; out-kept = refl }, (c .before .before .before .before .before .before .before .before .before .before .before .before .before .pre .0 .few, (omega arith, c .before .before .before .before .before .before .before .before .before .before .before .before .before .pre .1))))
 
 sub-if1 : tie.Need-sub-if1 Inv-loop μ-loop
 sub-if1 c = omega (arith, c .before .before .loop .inv .0 .fits, c .before .before .loop .inv .1 .0 .out-kept)
@@ -53,22 +54,28 @@ same-length-9 : tie.Need-same-length-9 Inv-loop μ-loop
 same-length-9 c = c .before .before .before .loop .inv .1 .0 .out-kept
 
 returns : tie.Need-returns Inv-loop μ-loop
-returns c = (c .before .before .before .loop .inv .0, (record { within = c .before .before .before .loop .inv .1 .1 .1 .0; some = λ h. some-taken _ _ _ _ (none-written _ _ _ _ _ _ _ _ (c .before .before .before .loop .inv .0)) (c .if1 .taken) (omega (arith, c .before .before .before .before .room-for .ensures, c .before .before .before .before .before .before .before .before .before .before .before .before .before .before .before .before .before .pre .0 .answer, c .before .before .before .loop .inv .1 .0 .out-kept)); few = c .before .before .before .loop .inv .1 .1 .0 }, c .before .before .before .loop .inv .1 .1 .1 .1))
+returns c = (c .before .before .before .loop .inv .0, (record { within = c .before .before .before .loop .inv .1 .1 .1 .0; some = λ h. some-taken _ _ _ _ (none-written framesProgram _ _ _ _ _ _ _ _ (c .before .before .before .loop .inv .0)) (c .if1 .taken) (omega (arith, c .before .before .before .before .room-for .ensures, c .before .before .before .before .before .before .before .before .before .before .before .before .before .before .before .before .before .pre .0 .answer, c .before .before .before .loop .inv .1 .0 .out-kept)); few = c .before .before .before .loop .inv .1 .1 .0 }, c .before .before .before .loop .inv .1 .1 .1 .1))
 
-shared-slice-read-b : tie.Need-shared-slice-read-b Inv-loop μ-loop
-shared-slice-read-b c = omega (arith, c .before .before .before .loop-test .taken)
+sub-rest : tie.Need-sub-rest Inv-loop μ-loop
+sub-rest c = omega arith
 
-take-byte-requires : tie.Need-take-byte-requires Inv-loop μ-loop
-take-byte-requires c κs = (record { few = c .before .before .before .before .before .before .before .before .before .before .before .before .before .loop .inv .1 .1 .0; places = omega (arith, c .before .before .before .before .before .before .before .before .before .before .before .before .before .loop .inv .1 .0 .line-kept, c .before .before .before .before .before .before .before .before .before .before .before .before .before .before .before .before .before .before .before .before .before .before .before .before .before .before .before .pre .0 .places); answer = omega (arith, c .before .before .before .before .before .before .before .before .before .before .if1 .left, c .before .before .before .before .before .before .before .before .before .before .before .before .before .before .room-for .ensures, c .before .before .before .before .before .before .before .before .before .before .before .before .before .loop .inv .0 .fits, c .before .before .before .before .before .before .before .before .before .before .before .before .before .loop .inv .1 .0 .main-kept, c .before .before .before .before .before .before .before .before .before .before .before .before .before .loop .inv .1 .0 .aux-kept, c .before .before .before .before .before .before .before .before .before .before .before .before .before .loop .inv .1 .0 .out-kept) }, c .before .before .before .before .before .before .before .before .before .before .before .before .before .loop .inv .1 .1 .1 .1)
+part-rest-start : tie.Need-part-rest-start Inv-loop μ-loop
+part-rest-start c = omega arith
+
+part-rest-end : tie.Need-part-rest-end Inv-loop μ-loop
+part-rest-end c = omega arith
+
+take-line-requires : tie.Need-take-line-requires Inv-loop μ-loop
+take-line-requires c κs = (record { few = c .before .before .before .before .before .before .before .before .before .before .before .before .before .loop .inv .1 .1 .0; places = c .before .before .before .before .before .before .before .before .before .before .before .before .before .loop .inv .1 .0 .line-kept ∙ c .before .before .before .before .before .before .before .before .before .before .before .before .before .before .before .before .before .before .before .before .before .before .before .before .before .before .before .pre .0 .places; answer = omega (arith, c .before .before .before .before .before .before .before .before .before .before .if1 .left, c .before .before .before .before .before .before .before .before .before .before .before .before .before .before .room-for .ensures, c .before .before .before .before .before .before .before .before .before .before .before .before .before .loop .inv .0 .fits, c .before .before .before .before .before .before .before .before .before .before .before .before .before .loop .inv .1 .0 .main-kept, c .before .before .before .before .before .before .before .before .before .before .before .before .before .loop .inv .1 .0 .aux-kept, c .before .before .before .before .before .before .before .before .before .before .before .before .before .loop .inv .1 .0 .out-kept) }, c .before .before .before .before .before .before .before .before .before .before .before .before .before .loop .inv .1 .1 .1 .1)
 
 add-taken : tie.Need-add-taken Inv-loop μ-loop
-add-taken c = omega (arith, c .before .before .before .before .before .before .before .before .before .before .before .before .before .before .before .before .before .before .before .before .before .before .before .before .before .before .before .before .before .before .before .loop-test .taken, c .before .before .before .before .before .before .before .before .before .before .before .before .before .before .before .before .before .before .before .before .before .before .before .before .before .before .before .before .before .before .before .before .before .before .before .before .before .before .before .before .before .before .before .before .before .before .good)
+add-taken c = omega (arith, c .before .before .before .before .before .before .before .before .before .before .before .before .before .before .before .before .before .before .before .before .take-line .ensures .1 .0 .within, rest-length (c .before .before .before .before .before .before .before .before .before .before .before .before .before .before .before .before .before .before .before .before .before .before .before .before .before .before .before .before .before .before .before .before .before .before .before .before .before .before .before .before .before .before .before .before .before .before .before .before .args .part .now) (c .before .before .before .before .before .before .before .before .before .before .before .before .before .before .before .before .before .before .before .before .before .before .before .before .before .before .before .before .before .before .before .before .before .before .loop .taken) (c .before .before .before .before .before .before .before .before .before .before .before .before .before .before .before .before .before .before .before .before .before .before .before .before .before .before .before .before .before .before .before .before .before .before .loop .inv .1 .1 .1 .0), c .before .before .before .before .before .before .before .before .before .before .before .before .before .before .before .before .before .before .before .before .before .before .before .before .before .before .before .before .before .before .before .before .before .before .loop .inv .1 .1 .1 .0, c .before .before .before .before .before .before .before .before .before .before .before .before .before .before .before .before .before .before .before .before .before .before .before .before .before .before .before .before .before .before .before .before .before .before .before .before .before .before .before .before .before .before .before .before .before .before .before .before .good)
 
 loop-less : tie.Need-loop-less Inv-loop μ-loop
-loop-less c = omega (arith, c .before .before .before .before .before .before .before .before .before .before .before .before .before .before .before .before .before .before .before .before .before .before .before .before .before .before .before .before .before .before .before .loop-test .taken)
+loop-less c = omega (arith, c .before .before .before .before .before .before .before .before .before .before .before .before .before .before .before .before .before .before .before .before .take-line .ensures .1 .0 .within, c .before .before .before .before .before .before .before .before .before .before .before .before .before .before .before .before .before .before .before .before .take-line .ensures .1 .0 .some (omega (arith, c .before .before .before .before .before .before .before .before .before .before .before .before .before .before .before .before .before .before .before .before .before .before .before .before .before .before .before .before .before .before .before .before .before .loop-test .taken, rest-length (c .before .before .before .before .before .before .before .before .before .before .before .before .before .before .before .before .before .before .before .before .before .before .before .before .before .before .before .before .before .before .before .before .before .before .before .before .before .before .before .before .before .before .before .before .before .before .before .before .args .part .now) (c .before .before .before .before .before .before .before .before .before .before .before .before .before .before .before .before .before .before .before .before .before .before .before .before .before .before .before .before .before .before .before .before .before .before .loop .taken) (c .before .before .before .before .before .before .before .before .before .before .before .before .before .before .before .before .before .before .before .before .before .before .before .before .before .before .before .before .before .before .before .before .before .before .loop .inv .1 .1 .1 .0))), c .before .before .before .before .before .before .before .before .before .before .before .before .before .before .before .before .before .before .before .before .before .before .before .before .before .before .before .before .before .before .before .before .before .loop-test .taken)
 
 loop-again : tie.Need-loop-again Inv-loop μ-loop
-loop-again c = (one-fed _ _ _ _ _ _ _ _ (c .before .before .before .before .before .before .before .before .before .before .before .before .before .before .before .before .before .before .before .before .before .before .before .before .before .before .before .before .before .before .before .before .loop .inv .0) _ _ _ _ (c .before .before .before .before .before .before .before .before .before .before .before .before .before .before .before .before .before .before .before .before .before .before .before .before .before .before .before .before .before .before .before .loop-test .taken) (c .before .before .before .before .before .before .before .before .before .before .before .before .before .before .before .before .before .before .before .before .before .before .before .before .before .before .before .before .before .before .before .before .loop .inv .1 .0 .out-kept) (c .before .before .before .before .before .before .before .before .before .before .before .before .before .before .before .before .before .before .take-byte .ensures .0), (record { m-kept = c .before .before .before .before .before .before .before .before .before .before .before .before .before .before .before .before .before .before .take-byte .kept .0 ∙ c .before .before .before .before .before .before .before .before .before .before .before .before .before .before .before .before .before .before .before .before .before .before .before .before .before .before .before .before .before .before .before .before .loop .inv .1 .0 .m-kept; roots-kept = c .before .before .before .before .before .before .before .before .before .before .before .before .before .before .before .before .before .before .take-byte .kept .1 .0 ∙ c .before .before .before .before .before .before .before .before .before .before .before .before .before .before .before .before .before .before .before .before .before .before .before .before .before .before .before .before .before .before .before .before .loop .inv .1 .0 .roots-kept; main-kept = c .before .before .before .before .before .before .before .before .before .before .before .before .before .before .before .before .before .before .take-byte .kept .1 .1 .0 ∙ c .before .before .before .before .before .before .before .before .before .before .before .before .before .before .before .before .before .before .before .before .before .before .before .before .before .before .before .before .before .before .before .before .loop .inv .1 .0 .main-kept; aux-kept = c .before .before .before .before .before .before .before .before .before .before .before .before .before .before .before .before .before .before .take-byte .kept .1 .1 .1 .0 ∙ c .before .before .before .before .before .before .before .before .before .before .before .before .before .before .before .before .before .before .before .before .before .before .before .before .before .before .before .before .before .before .before .before .loop .inv .1 .0 .aux-kept; numbers-kept = c .before .before .before .before .before .before .before .before .before .before .before .before .before .before .before .before .before .before .take-byte .kept .1 .1 .1 .1 .0 ∙ c .before .before .before .before .before .before .before .before .before .before .before .before .before .before .before .before .before .before .before .before .before .before .before .before .before .before .before .before .before .before .before .before .loop .inv .1 .0 .numbers-kept; table-kept = c .before .before .before .before .before .before .before .before .before .before .before .before .before .before .before .before .before .before .take-byte .kept .1 .1 .1 .1 .1 .0 ∙ c .before .before .before .before .before .before .before .before .before .before .before .before .before .before .before .before .before .before .before .before .before .before .before .before .before .before .before .before .before .before .before .before .loop .inv .1 .0 .table-kept; least-kept = c .before .before .before .before .before .before .before .before .before .before .before .before .before .before .before .before .before .before .take-byte .kept .1 .1 .1 .1 .1 .1 .0 ∙ c .before .before .before .before .before .before .before .before .before .before .before .before .before .before .before .before .before .before .before .before .before .before .before .before .before .before .before .before .before .before .before .before .loop .inv .1 .0 .least-kept; line-kept = c .before .before .before .before .before .before .before .before .before .before .before .before .before .before .before .before .before .before .take-byte .kept .1 .1 .1 .1 .1 .1 .1 .0 ∙ c .before .before .before .before .before .before .before .before .before .before .before .before .before .before .before .before .before .before .before .before .before .before .before .before .before .before .before .before .before .before .before .before .loop .inv .1 .0 .line-kept; out-kept = c .before .before .before .before .before .before .before .before .before .before .before .before .before .before .before .before .before .before .take-byte .kept .1 .1 .1 .1 .1 .1 .1 .1 .1 .0 ∙ c .before .before .before .before .before .before .before .before .before .before .before .before .before .before .before .before .before .before .before .before .before .before .before .before .before .before .before .before .before .before .before .before .loop .inv .1 .0 .out-kept }, (c .before .before .before .before .before .before .before .before .before .before .before .before .before .before .before .before .before .before .take-byte .ensures .1 .0, (omega (arith, c .before .before .before .before .before .before .before .before .before .before .before .before .before .before .before .before .before .before .before .before .before .before .before .before .before .before .before .before .before .before .before .loop-test .taken), c .before .before .before .before .before .before .before .before .before .before .before .before .before .before .before .before .before .before .take-byte .ensures .1 .1))))
+loop-again c = (more-fed framesProgram _ (c .before .before .before .before .before .before .before .before .before .before .before .before .before .before .before .before .before .before .before .before .before .before .before .before .before .before .before .before .before .before .before .before .before .before .before .before .before .before .before .before .before .before .before .before .before .before .before .before .args .part .now) _ _ _ _ _ _ (c .before .before .before .before .before .before .before .before .before .before .before .before .before .before .before .before .before .before .before .before .before .before .before .before .before .before .before .before .before .before .before .before .before .before .loop .inv .0) _ _ _ _ _ (c .before .before .before .before .before .before .before .before .before .before .before .before .before .before .before .before .before .before .before .before .before .before .before .before .before .before .before .before .before .before .before .before .before .before .loop .inv .1 .1 .1 .0) (c .before .before .before .before .before .before .before .before .before .before .before .before .before .before .before .before .before .before .before .before .before .before .before .before .before .before .before .before .before .before .before .before .before .before .loop .inv .1 .0 .out-kept) (c .before .before .before .before .before .before .before .before .before .before .before .before .before .before .before .before .before .before .before .before .take-line .ensures .0), (record { m-kept = c .before .before .before .before .before .before .before .before .before .before .before .before .before .before .before .before .before .before .before .before .take-line .kept .0 ∙ c .before .before .before .before .before .before .before .before .before .before .before .before .before .before .before .before .before .before .before .before .before .before .before .before .before .before .before .before .before .before .before .before .before .before .loop .inv .1 .0 .m-kept; roots-kept = c .before .before .before .before .before .before .before .before .before .before .before .before .before .before .before .before .before .before .before .before .take-line .kept .1 .0 ∙ c .before .before .before .before .before .before .before .before .before .before .before .before .before .before .before .before .before .before .before .before .before .before .before .before .before .before .before .before .before .before .before .before .before .before .loop .inv .1 .0 .roots-kept; main-kept = c .before .before .before .before .before .before .before .before .before .before .before .before .before .before .before .before .before .before .before .before .take-line .kept .1 .1 .0 ∙ c .before .before .before .before .before .before .before .before .before .before .before .before .before .before .before .before .before .before .before .before .before .before .before .before .before .before .before .before .before .before .before .before .before .before .loop .inv .1 .0 .main-kept; aux-kept = c .before .before .before .before .before .before .before .before .before .before .before .before .before .before .before .before .before .before .before .before .take-line .kept .1 .1 .1 .0 ∙ c .before .before .before .before .before .before .before .before .before .before .before .before .before .before .before .before .before .before .before .before .before .before .before .before .before .before .before .before .before .before .before .before .before .before .loop .inv .1 .0 .aux-kept; numbers-kept = c .before .before .before .before .before .before .before .before .before .before .before .before .before .before .before .before .before .before .before .before .take-line .kept .1 .1 .1 .1 .0 ∙ c .before .before .before .before .before .before .before .before .before .before .before .before .before .before .before .before .before .before .before .before .before .before .before .before .before .before .before .before .before .before .before .before .before .before .loop .inv .1 .0 .numbers-kept; table-kept = c .before .before .before .before .before .before .before .before .before .before .before .before .before .before .before .before .before .before .before .before .take-line .kept .1 .1 .1 .1 .1 .0 ∙ c .before .before .before .before .before .before .before .before .before .before .before .before .before .before .before .before .before .before .before .before .before .before .before .before .before .before .before .before .before .before .before .before .before .before .loop .inv .1 .0 .table-kept; least-kept = c .before .before .before .before .before .before .before .before .before .before .before .before .before .before .before .before .before .before .before .before .take-line .kept .1 .1 .1 .1 .1 .1 .0 ∙ c .before .before .before .before .before .before .before .before .before .before .before .before .before .before .before .before .before .before .before .before .before .before .before .before .before .before .before .before .before .before .before .before .before .before .loop .inv .1 .0 .least-kept; line-kept = c .before .before .before .before .before .before .before .before .before .before .before .before .before .before .before .before .before .before .before .before .take-line .kept .1 .1 .1 .1 .1 .1 .1 .0 ∙ c .before .before .before .before .before .before .before .before .before .before .before .before .before .before .before .before .before .before .before .before .before .before .before .before .before .before .before .before .before .before .before .before .before .before .loop .inv .1 .0 .line-kept; out-kept = c .before .before .before .before .before .before .before .before .before .before .before .before .before .before .before .before .before .before .before .before .take-line .kept .1 .1 .1 .1 .1 .1 .1 .1 .1 .0 ∙ c .before .before .before .before .before .before .before .before .before .before .before .before .before .before .before .before .before .before .before .before .before .before .before .before .before .before .before .before .before .before .before .before .before .before .loop .inv .1 .0 .out-kept }, (c .before .before .before .before .before .before .before .before .before .before .before .before .before .before .before .before .before .before .before .before .take-line .ensures .1 .0 .few, (omega (arith, c .before .before .before .before .before .before .before .before .before .before .before .before .before .before .before .before .before .before .before .before .take-line .ensures .1 .0 .within, rest-length (c .before .before .before .before .before .before .before .before .before .before .before .before .before .before .before .before .before .before .before .before .before .before .before .before .before .before .before .before .before .before .before .before .before .before .before .before .before .before .before .before .before .before .before .before .before .before .before .before .args .part .now) (c .before .before .before .before .before .before .before .before .before .before .before .before .before .before .before .before .before .before .before .before .before .before .before .before .before .before .before .before .before .before .before .before .before .before .loop .taken) (c .before .before .before .before .before .before .before .before .before .before .before .before .before .before .before .before .before .before .before .before .before .before .before .before .before .before .before .before .before .before .before .before .before .before .loop .inv .1 .1 .1 .0), c .before .before .before .before .before .before .before .before .before .before .before .before .before .before .before .before .before .before .before .before .before .before .before .before .before .before .before .before .before .before .before .before .before .before .loop .inv .1 .1 .1 .0), c .before .before .before .before .before .before .before .before .before .before .before .before .before .before .before .before .before .before .before .before .take-line .ensures .1 .1))))
 
 same-length-10 : tie.Need-same-length-10 Inv-loop μ-loop
 same-length-10 c = c .before .loop .inv .1 .0 .m-kept
@@ -98,7 +105,7 @@ same-length-18 : tie.Need-same-length-18 Inv-loop μ-loop
 same-length-18 c = c .before .loop .inv .1 .0 .out-kept
 
 returns-2 : tie.Need-returns-2 Inv-loop μ-loop
-returns-2 c = (c .before .loop .inv .0, (record { within = c .before .loop .inv .1 .1 .1 .0; some = λ h. omega (arith, c .loop-test .left); few = c .before .loop .inv .1 .1 .0 }, c .before .loop .inv .1 .1 .1 .1))
+returns-2 c = (c .before .loop .inv .0, (record { within = c .before .loop .inv .1 .1 .1 .0; some = λ h. omega (arith, c .loop-test .left, h); few = c .before .loop .inv .1 .1 .0 }, c .before .loop .inv .1 .1 .1 .1))
 
 pub feed-spec : {M : Type 1} → statement M
 feed-spec =
@@ -119,8 +126,10 @@ feed-spec =
     same-length-8
     same-length-9
     returns
-    shared-slice-read-b
-    take-byte-requires
+    sub-rest
+    part-rest-start
+    part-rest-end
+    take-line-requires
     add-taken
     loop-less
     loop-again
