@@ -36,3 +36,5 @@ pub mod Since
 pub mod Lowered
 pub mod Latest
 pub mod Trace
+pub mod Numbers
+pub mod Rows

@@ -7,6 +7,7 @@ pub mod Order
 pub mod Evaluated
 pub mod Fills
 pub mod Traces
+pub mod Reached
 pub mod Outcomes
 pub mod Examples
 pub mod Refusals
