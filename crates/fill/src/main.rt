@@ -103,7 +103,19 @@ fn finish(
         given: kept.given,
     };
     let last = answer_line(
-        m, roots, main, aux, numbers, table, least, challenges, row_main, row_aux, line, out, s,
+        m,
+        roots,
+        main,
+        aux,
+        numbers,
+        table,
+        least,
+        challenges,
+        row_main,
+        row_aux,
+        line,
+        out,
+        s,
     );
     let n = last.at;
     io::write_all(STDOUT_FILENO, &out[..n]);
@@ -148,14 +160,38 @@ fn serve(
         turns = if n == 0 { 0 } else { turns - 1 };
         let p = &part[..n];
         s = pour(
-            m, roots, main, aux, numbers, table, least, challenges, row_main, row_aux, line, p,
-            out, s,
+            m,
+            roots,
+            main,
+            aux,
+            numbers,
+            table,
+            least,
+            challenges,
+            row_main,
+            row_aux,
+            line,
+            p,
+            out,
+            s,
         );
     }
     let kept = s.kept;
     let line = &line[..kept];
     finish(
-        m, roots, main, aux, numbers, table, least, challenges, row_main, row_aux, line, out, s,
+        m,
+        roots,
+        main,
+        aux,
+        numbers,
+        table,
+        least,
+        challenges,
+        row_main,
+        row_aux,
+        line,
+        out,
+        s,
     );
 }
 
