@@ -52,7 +52,10 @@ for circuit in "products 1500 8" "selectors 1200 12"; do
         for span in span_lower_rust span_lower_ours; do count $span=$target $circuit; done
     done
 done
-# 200 rows and what is done once a call.
-for circuit in "products 2000 8" "selectors 1200 12"; do
-    for span in span_fill_rust span_fill_ours; do count $span $circuit; done
+# One row and 201: what is done once a call, and 200 further rows. Beside them one evaluation of the circuit before it was lowered.
+for circuit in "products 250 8" "products 2000 8" "selectors 250 12" "selectors 1200 12"; do
+    for rows in 1 201; do
+        for span in span_fill_rust span_fill_ours; do count $span=$rows $circuit; done
+    done
+    count span_evaluate_ours $circuit
 done

@@ -78,6 +78,7 @@ const ROWS: usize = 1000;
 
 /// A circuit lowered to 2 on both sides, and rows whose new columns are to be filled.
 struct Filling {
+    rows: usize,
     both: Both,
     lowered: ours::Lowering,
     lists: [Vec<rust::Node>; 2],
@@ -85,28 +86,28 @@ struct Filling {
 
 impl Filling {
     /// None where the lowering is refused: it wants three free places for each node of degree above 1.
-    fn new(circuit: &str) -> Option<Self> {
+    fn new(circuit: &str, rows: usize) -> Option<Self> {
         let both = Both::new(&shapes::calls(circuit));
         let mut lowered = ours::Lowering::new(&both.m, &both.root_ids());
         if ours::span_lower_ours(&mut lowered, 2, MAINS, AUXS) != 0 {
             return None;
         }
         let (main, aux) = rust::span_lower_rust(&mut both.root_nodes(), 2);
-        Some(Filling { both, lowered, lists: [main, aux] })
+        Some(Filling { rows, both, lowered, lists: [main, aux] })
     }
 
     fn trace(&self) -> rust::Trace {
-        rust::Trace::new(&self.lists[0], &self.lists[1], ROWS + 1)
+        rust::Trace::new(&self.lists[0], &self.lists[1], self.rows + 1)
     }
 
     fn ours(&self, trace: &mut ours::Lent) {
-        ours::span_fill_ours(&self.lowered, MAINS, AUXS, ROWS as u64 + 1, trace);
+        ours::span_fill_ours(&self.lowered, MAINS, AUXS, self.rows as u64 + 1, trace);
     }
 }
 
 /// The line has the number of new columns, microseconds a row, and rows a second.
 fn fill(circuit: &str, turns: usize) {
-    let Some(filling) = Filling::new(circuit) else { return eprintln!("{circuit}: its lowering is refused") };
+    let Some(filling) = Filling::new(circuit, ROWS) else { return eprintln!("{circuit}: its lowering is refused") };
     let (mut theirs, mut lent) = (filling.trace(), filling.trace().lent());
     rust::span_fill_rust(&mut theirs);
     filling.ours(&mut lent);
@@ -123,8 +124,10 @@ fn fill(circuit: &str, turns: usize) {
 /// One span alone, for callgrind to count between its entry and its return.
 pub fn once(what: &str, circuit: &str) {
     let calls = shapes::calls(circuit);
+    // After `=` the target of a lowering, or how many rows are filled.
     let (span, target) =
-        what.split_once('=').map_or((what, 0), |(span, target)| (span, target.parse().expect("a target")));
+        what.split_once('=').map_or((what, 0), |(span, target)| (span, target.parse().expect("a number")));
+    let filling = || Filling::new(circuit, target as usize).expect("lowered");
     match span {
         "span_build_rust" => drop(rust::span_build_rust(&Forgetting(rust::Builder::new()).0, &calls)),
         "span_build_public" => drop(ours::span_build_public(&mut ours::fresh(), &calls)),
@@ -141,9 +144,9 @@ pub fn once(what: &str, circuit: &str) {
             let both = Both::new(&calls);
             ours::span_lower_ours(&mut ours::Lowering::new(&both.m, &both.root_ids()), target, MAINS, AUXS);
         }
-        "span_fill_rust" => rust::span_fill_rust(&mut Filling::new(circuit).expect("lowered").trace()),
+        "span_fill_rust" => rust::span_fill_rust(&mut filling().trace()),
         "span_fill_ours" => {
-            let filling = Filling::new(circuit).expect("lowered");
+            let filling = filling();
             filling.ours(&mut filling.trace().lent());
         }
         _ => panic!("no span {what}"),
