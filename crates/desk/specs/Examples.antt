@@ -88,7 +88,8 @@ table =
     ∷ (map (λ l. bit (tooWide l)) (latest true 1024 1024 0 0 ∷ latest true 1023 1000 1 24 ∷ latest true 1024 0 1 0 ∷ latest true 0 1024 0 1 ∷ latest true 1025 0 0 0 ∷ latest true 0 0 0 1025 ∷ []), 0 ∷ 0 ∷ 1 ∷ 1 ∷ 1 ∷ 1 ∷ [])
     -- too wide, whatever follows; before that, no lower frame
     ∷ (beyond x "0c\n0a000204000000\n0c\n0cx\n0c0000000000000003\n", bytes "10\n00000100000006\n0d\n0d\n0d\n")
-    -- 1,025 challenges are no frame
+    -- 48 challenges are one frame, 1,025 are none
+    ∷ (challengesTold freshDesk (bytes "0b" ++ replicate 2304 48) .bytes, 0 ∷ [])
     ∷ (challengesTold freshDesk (bytes "0b" ++ replicate 49200 48) .bytes, 16 ∷ [])
     -- the answer is written as far as there are places
     ∷ (deskCall freshDesk (bytes "0001") (replicate 5 7) .written ∷ deskCall freshDesk (bytes "0001") (replicate 5 7) .answer, 3 ∷ 48 ∷ 48 ∷ 10 ∷ 7 ∷ 7 ∷ [])
