@@ -8,10 +8,11 @@ use lib.ListN.{length, take, drop, take-append-drop, length-take, length-drop}
 use lib.Seq.{sets, sets-eq, length-sets, drop-drop}
 use Rattle.layout.specs.Words.{rowKind}
 use Rattle.filling.specs.Calls.{mainFilled, auxFilled, rowFilled, atRow, eachRow}
+use Rattle.filling.specs.Promise.{windowOf}
 use Rattle.filler.specs.declared.plan.Shape.{Shape}
 use Rattle.filler.specs.Running.{Values, ran, Roomy}
 use Rattle.filler.specs.Planning.{Ready}
-use Rattle.filler.specs.Rowing.{wordsFor, triplesFor, rowStored, window, Fits, Inside, Rowed, RowDone, Prepared}
+use Rattle.filler.specs.Rowing.{wordsFor, triplesFor, rowStored, Fits, Inside, Rowed, RowDone, Prepared}
 use Rattle.filler.specs.Filling.{Within, Fillable}
 use Rattle.filler.proofs.Runs.{ran-lengths}
 use Rattle.filler.proofs.Stores.{words-length, triples-length, window-sets}
@@ -47,10 +48,10 @@ module _ (s : Shape) (filled many : ℕ) (m mains auxs challenges targets bases 
 
     module _ (main′ aux′ words′ triples′ : List ℕ) (d : RowDone s (rowKind m) (r - 1) many plan targets bases main aux words triples main′ aux′ words′ triples′) where
       abbrev wm : List ℕ
-      wm = window (rowKind m) (s .row) (r - 1) main
+      wm = windowOf (rowKind m) (s .row) (r - 1) main
 
       abbrev wa : List ℕ
-      wa = window (rowKind m) (3 * s .wide) (r - 1) aux
+      wa = windowOf (rowKind m) (3 * s .wide) (r - 1) aux
 
       long-main : length wm ≡ rowKind m * s .row
       long-main = window-length (rowKind m) (s .row) (r - 1) main (inside-now .main-inside)
@@ -114,9 +115,9 @@ module _ (s : Shape) (m mains auxs challenges main aux : List ℕ) (no-main : le
   at-none : (r : ℕ) → Inside s (rowKind m) r main aux → atRow (rowKind m) g (s .row) (3 * s .wide) r (main, aux) ≡ (main, aux)
   unfolding atRow
   at-none r i =
-      let p : sets main (r * s .row) (window (rowKind m) (s .row) r main) ≡ main = window-sets main [] (r * s .row) (rowKind m * s .row) 0 (i .main-inside) (omega arith) in
-      let q : sets aux (r * (3 * s .wide)) (window (rowKind m) (3 * s .wide) r aux) ≡ aux = window-sets aux [] (r * (3 * s .wide)) (rowKind m * (3 * s .wide)) 0 (i .aux-inside) (omega arith) in
-      ap (λ (t : List ℕ × List ℕ). (sets main (r * s .row) (t .0), sets aux (r * (3 * s .wide)) (t .1))) (none-filled (s .main) (s .aux) m mains auxs challenges no-main no-aux (window (rowKind m) (s .row) r main, window (rowKind m) (3 * s .wide) r aux))
+      let p : sets main (r * s .row) (windowOf (rowKind m) (s .row) r main) ≡ main = window-sets main [] (r * s .row) (rowKind m * s .row) 0 (i .main-inside) (omega arith) in
+      let q : sets aux (r * (3 * s .wide)) (windowOf (rowKind m) (3 * s .wide) r aux) ≡ aux = window-sets aux [] (r * (3 * s .wide)) (rowKind m * (3 * s .wide)) 0 (i .aux-inside) (omega arith) in
+      ap (λ (t : List ℕ × List ℕ). (sets main (r * s .row) (t .0), sets aux (r * (3 * s .wide)) (t .1))) (none-filled (s .main) (s .aux) m mains auxs challenges no-main no-aux (windowOf (rowKind m) (s .row) r main, windowOf (rowKind m) (3 * s .wide) r aux))
       ∙ (λ k. (p k, q k))
 
   pub each-none : (n : ℕ) → ((r : ℕ) → r < n → Inside s (rowKind m) r main aux) → eachRow (rowKind m) g (s .row) (3 * s .wide) n (main, aux) ≡ (main, aux)

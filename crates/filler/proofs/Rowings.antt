@@ -10,17 +10,18 @@ use Rattle.filler.specs.Running.{Sound, Runnable}
 use lib.Seq.{sets}
 use borrow.Rule.Slice.PartMut.{midOf, putMid, mid-len}
 use Rattle.circuit.specs.Rank.{at}
-use Rattle.filler.specs.Rowing.{wordsFor, triplesFor, window, Fits, Inside, Rowed, Storing, StoringWide}
+use Rattle.filling.specs.Promise.{windowOf}
+use Rattle.filler.specs.Rowing.{wordsFor, triplesFor, Fits, Inside, Rowed, Storing, StoringWide}
 use Rattle.filler.proofs.Stores.{part-sets, words-length, triples-length}
 
-pub window-length : (kind width r : ℕ) (l : List ℕ) → r * width + kind * width ≤ length l → length (window kind width r l) ≡ kind * width
+pub window-length : (kind width r : ℕ) (l : List ℕ) → r * width + kind * width ≤ length l → length (windowOf kind width r l) ≡ kind * width
 window-length kind width r l h = omega (arith, length-take (kind * width) (drop (r * width) l), length-drop (r * width) l)
 
 three-out : (k w : ℕ) → k * (3 * w) ≡ 3 * (k * w)
 three-out k w = sym (mul-assoc k 3 w) ∙ ap (λ (x : ℕ). x * w) (mul-comm k 3) ∙ mul-assoc 3 k w
 
 pub row-runnable : (s : Shape) (kind r many : ℕ) (plan targets bases main aux words triples : List ℕ) → Rowed s kind r many plan targets bases main aux words triples
-    → Runnable plan many (window kind (s .row) r main) (window kind (3 * s .wide) r aux) words triples
+    → Runnable plan many (windowOf kind (s .row) r main) (windowOf kind (3 * s .wide) r aux) words triples
 row-runnable s kind r many plan targets bases main aux words triples h =
     let f = h .fits in
     let a = window-length kind (s .row) r main (h .inside .main-inside) in

@@ -4,7 +4,7 @@ use Prim.Native.Nat.{ℕ, zero, suc, _+_, _-_, _*_, _/_, _<_, _≤_}
 use mathlib.Core.Path.{_≡_}
 use mathlib.Core.Bool.{false}
 use mathlib.Core.List.{List, [], _∷_, _++_}
-use lib.ListN.{length, take, drop}
+use lib.ListN.{length}
 use lib.Seq.{sets}
 use lib.Dec.{eqb}
 use Rattle.arithmetic.specs.declared.Triple.{Triple}
@@ -14,6 +14,7 @@ use Rattle.layout.specs.Words.{rowKind}
 use Rattle.circuit.specs.Rank.{at}
 use Rattle.reading.specs.Calls.{tripleAt}
 use Rattle.filling.specs.Calls.{rowFilled}
+use Rattle.filling.specs.Promise.{windowOf}
 use Rattle.filler.specs.declared.plan.Shape.{Shape}
 use Rattle.filler.specs.Running.{Values, instructionAt, ran, Sound, Roomy}
 use Rattle.filler.specs.Planning.{Ready}
@@ -39,10 +40,6 @@ rowStored s targets bases v t = (sets (t .0) (s .main) (wordsFor (v .0) targets 
 -- a row, by the plan
 abbrev pub rowRun : Shape → List ℕ → List ℕ → List ℕ → ℕ → Values → List ℕ × List ℕ → List ℕ × List ℕ
 rowRun s targets bases plan many v t = rowStored s targets bases (ran plan (t .0) (t .1) many v) t
-
--- the rows that are read together, from row r on
-abbrev pub window : ℕ → ℕ → ℕ → List ℕ → List ℕ
-window kind width r table = take (kind * width) (drop (r * width) table)
 
 -- a plan for rows of this shape, and where the new columns' values stand when it has run
 pub record Fits (s : Shape) (kind many : ℕ) (plan targets bases : List ℕ) : Type 0 where
@@ -86,7 +83,7 @@ pub record StoringWide (s : Shape) (r : ℕ) (aux targets bases words triples : 
 
 -- row r is filled: the values are worked out, and stored in its new cells
 pub record RowDone (s : Shape) (kind r many : ℕ) (plan targets bases main aux words triples main′ aux′ words′ triples′ : List ℕ) : Type 0 where
-  pub values : (words′, triples′) ≡ ran plan (window kind (s .row) r main) (window kind (3 * s .wide) r aux) many (words, triples)
+  pub values : (words′, triples′) ≡ ran plan (windowOf kind (s .row) r main) (windowOf kind (3 * s .wide) r aux) many (words, triples)
   pub main-stored : main′ ≡ sets main (r * s .row + s .main) (wordsFor words′ targets (s .fresh))
   pub aux-stored : aux′ ≡ sets aux (r * (3 * s .wide) + 3 * s .aux) (triplesFor bases (words′, triples′) targets (s .fresh) (s .items - s .fresh))
 

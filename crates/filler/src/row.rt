@@ -11,8 +11,9 @@ ghost use Prim.Native.Nat.{ℕ, _+_, _-_, _*_, _<_, _≤_};
 ghost use lib.ListN.{length};
 ghost use lib.Seq.{sets};
 ghost use Rattle.circuit.specs.Rank.{at};
+ghost use Rattle.filling.specs.Promise.{windowOf};
 ghost use Rattle.filler.specs.Running.{ran};
-ghost use Rattle.filler.specs.Rowing.{wordsFor, tripleFor, triplesFor, window, Storing, StoringWide, Rowed, RowDone};
+ghost use Rattle.filler.specs.Rowing.{wordsFor, tripleFor, triplesFor, Storing, StoringWide, Rowed, RowDone};
 
 // Stores the words of the first so many targets.
 fn store_words(part: &mut [u64], targets: &[u64], many: u64, words: &[u64])
@@ -77,7 +78,7 @@ fn work_out(
     triples: &mut [u64],
 )
     requires { ⌜ Rowed s kind r many (now plan) (now targets) (now bases) (now main) (now aux) (now words) (now triples) ⌝ }
-    ensures { λ u. ⌜ (now (words .exit), now (triples .exit)) ≡ ran (now (plan .entry)) (window kind (s .row) r (now (main .entry))) (window kind (3 * s .wide) r (now (aux .entry))) many (now (words .entry), now (triples .entry)) ⌝ }
+    ensures { λ u. ⌜ (now (words .exit), now (triples .exit)) ≡ ran (now (plan .entry)) (windowOf kind (s .row) r (now (main .entry))) (windowOf kind (3 * s .wide) r (now (aux .entry))) many (now (words .entry), now (triples .entry)) ⌝ }
 {
     let row = s.row as usize;
     let wide = 3 * (s.wide as usize);
