@@ -2,7 +2,7 @@
 use Prim.Native.Nat.{ℕ, zero, suc, _+_, _-_, _*_, _<_, _≤_}
 use mathlib.Core.Path.{_≡_, refl, sym, ap, _∙_}
 use mathlib.Core.Logic.{⊎-elim}
-use mathlib.Core.List.{List, [], _∷_, _++_}
+use mathlib.Core.List.{List, [], _∷_, _++_, append-assoc}
 use native.Mathlib.Numerals.{add-one}
 use native.Mathlib.Omega.{arith}
 use lib.ListN.{length, getD, set, take, drop, length-set, length-append, take-append-drop, length-take, length-drop, List·getD-append}
@@ -51,12 +51,8 @@ window-sets l ws s k j h g =
     sets-eq (sets (take k (drop s l)) j ws) l s (omega arith)
     ∙ ap (λ (n : ℕ). take s l ++ sets (take k (drop s l)) j ws ++ drop (s + n) l) len
     ∙ ap (λ (z : List ℕ). take s l ++ sets (take k (drop s l)) j ws ++ z) (sym (drop-drop k s l))
-    ∙ groups (take s l) (sets (take k (drop s l)) j ws) (drop k (drop s l))
+    ∙ append-assoc (take s l) (sets (take k (drop s l)) j ws) (drop k (drop s l))
     ∙ part-sets s k j l ws h g
-  where
-    groups : (x y z : List ℕ) → (x ++ y) ++ z ≡ x ++ (y ++ z)
-    groups [] y z = refl
-    groups (a ∷ x) y z = ap (λ (r : List ℕ). a ∷ r) (groups x y z)
 
 -- the words of targets
 module _ (words targets : List ℕ) where
