@@ -13,8 +13,6 @@ use Rattle.stream.proofs.Feeding.{Lengths}
 use Rattle.desk.specs.Desks.{Desk, freshDesk}
 use Rattle.desk.specs.Lines.{lineTold}
 use Rattle.desk.specs.Program.{toldLine, Desked, desked, deskCall, linesTold, fill}
-use Rattle.desk_line.specs.Rows.{Places}
-use Rattle.desk_line.specs.Kinds.{Desking}
 use Rattle.desk_line.specs.Feeds.{fillProgram, Deskable}
 use Rattle.desk_line.proofs.Longest.{enough, few-told}
 

@@ -2,10 +2,10 @@
 use Prim.Native.Nat.{ℕ, _+_, _*_, _/_, _<_, _≤_}
 use mathlib.Core.Path.{_≡_, refl, sym, ap, _∙_}
 use mathlib.Core.Bool.{Bool, true, false, _&&_, not}
-use mathlib.Core.List.{List, [], _∷_, _++_}
+use mathlib.Core.List.{List, [], _∷_}
 use native.Mathlib.Decide.{decLt}
 use native.Mathlib.Omega.{arith}
-use lib.ListN.{length, getD, take, length-append}
+use lib.ListN.{length, take, length-append}
 use lib.Seq.{take-all, length-take-le, getD-take}
 use lib.Dec.{ltb, eqb}
 use borrow.Author.Tests.{ne-eqb, eqb-true, lt-ltb}

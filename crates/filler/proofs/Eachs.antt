@@ -1,19 +1,19 @@
 -- Rows filled one after the other, from the last to the first. Assumes nothing.
 use Prim.Native.Nat.{ℕ, zero, suc, _+_, _-_, _*_, _<_, _≤_}
 use mathlib.Core.Path.{_≡_, refl, sym, ap, _∙_}
-use mathlib.Core.List.{List, [], _∷_, _++_}
+use mathlib.Core.List.{List, [], _∷_}
 use native.Mathlib.Nat.{mul-le-mul-right}
 use native.Mathlib.Omega.{arith}
-use lib.ListN.{length, take, drop, take-append-drop, length-take, length-drop}
-use lib.Seq.{sets, sets-eq, length-sets, drop-drop}
+use lib.ListN.{length}
+use lib.Seq.{sets, length-sets}
 use Rattle.layout.specs.Words.{rowKind}
 use Rattle.filling.specs.Calls.{mainFilled, auxFilled, rowFilled, atRow, eachRow}
 use Rattle.filling.specs.Promise.{windowOf}
 use Rattle.filler.specs.declared.plan.Shape.{Shape}
-use Rattle.filler.specs.Running.{Values, ran, Roomy}
+use Rattle.filler.specs.Running.{Values}
 use Rattle.filler.specs.Planning.{Ready}
-use Rattle.filler.specs.Rowing.{wordsFor, triplesFor, rowStored, Fits, Inside, Rowed, RowDone, Prepared}
-use Rattle.filler.specs.Filling.{Within, Fillable}
+use Rattle.filler.specs.Rowing.{wordsFor, triplesFor, rowStored, Inside, Rowed, RowDone}
+use Rattle.filler.specs.Filling.{Fillable}
 use Rattle.filler.proofs.Runs.{ran-lengths}
 use Rattle.filler.proofs.Stores.{words-length, triples-length, window-sets}
 use Rattle.filler.proofs.Rowings.{window-length}

@@ -12,7 +12,7 @@ use Rattle.layout.specs.declared.node.Expression.{Expression}
 use Rattle.layout.specs.declared.node.Expression.the-variants.{Base, Extension, Challenge, Operation, Input}
 use Rattle.layout.specs.Words.{used, expressionAt}
 use Rattle.layout.specs.NotCircuit.{notCircuit}
-use Rattle.layout.proofs.Tests.{last-or, same-or}
+use Rattle.layout.proofs.Tests.{last-or}
 use Rattle.circuit.specs.Rank.{at}
 use Rattle.paths.proofs.Counts.{valid-top}
 use Rattle.reading.specs.Calls.{tripleAt}

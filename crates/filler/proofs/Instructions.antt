@@ -1,10 +1,10 @@
 -- Instructions and the plan's words. Assumes nothing.
 use Prim.Native.Nat.{ℕ, zero, suc, _+_, _-_, _*_, _<_, _≤_}
 use mathlib.Core.Path.{_≡_, refl, sym, ap, _∙_}
-use mathlib.Core.Bool.{Bool, true, false, _&&_, not}
+use mathlib.Core.Bool.{Bool, true, false}
 use mathlib.Core.List.{List}
 use native.Mathlib.Omega.{arith}
-use lib.Dec.{ltb, eqb}
+use lib.Dec.{ltb}
 use lib.ListN.{length, set, length-set}
 use lib.Seq.{getD-set-same, getD-set-other}
 use borrow.Author.Tests.{ltb-false}
@@ -16,7 +16,7 @@ use Rattle.layout.specs.declared.node.Position.the-variants.{Main, Aux, NextMai
 use Rattle.layout.specs.declared.node.Expression.{Expression}
 use Rattle.layout.specs.declared.node.Expression.the-variants.{Base, Extension, Challenge, Operation, Input}
 use Rattle.layout.specs.Lists.{if_then_else_}
-use Rattle.layout.specs.Words.{rowKind, used, expressionAt, column, isMain}
+use Rattle.layout.specs.Words.{used, expressionAt, column, isMain}
 use Rattle.layout.specs.NotCircuit.{notCircuit, badIndex, badRow, badExpression}
 use Rattle.layout.proofs.Tests.{neither}
 use Rattle.layout.proofs.Valid.{valid-operands}

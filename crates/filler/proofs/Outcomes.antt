@@ -1,8 +1,8 @@
 -- How the tests, in their order, make a call's outcome; and what tables that have passed them give the rows. Assumes nothing.
 use Prim.Native.Nat.{ℕ, suc, _+_, _-_, _*_, _/_, _<_, _≤_}
-use mathlib.Core.Path.{_≡_, refl, sym, ap, _∙_, subst}
-use mathlib.Core.Bool.{Bool, true, false, _||_}
-use mathlib.Core.List.{List, [], _∷_, _++_}
+use mathlib.Core.Path.{_≡_, refl, sym, ap, _∙_}
+use mathlib.Core.Bool.{Bool, true, false}
+use mathlib.Core.List.{List, [], _++_}
 use native.Mathlib.Nat.{div-le-self}
 use native.Mathlib.Omega.{arith}
 use lib.Dec.{leb}
@@ -11,7 +11,7 @@ use Rattle.layout.specs.Lists.{any}
 use Rattle.layout.specs.Words.{rowKind, used}
 use borrow.Author.Tests.{lt-ltb}
 use Rattle.layout.specs.NotCircuit.{notCircuit, badHeader, badId, badWord}
-use Rattle.layout.specs.Outcomes.{Outcome, refusal}
+use Rattle.layout.specs.Outcomes.{Outcome}
 use Rattle.layout.specs.Answers.{accepted, refused}
 use Rattle.layout.proofs.Tests.{or-false, or-right}
 use Rattle.layout.proofs.Lists.{or-left}
@@ -19,10 +19,9 @@ use Rattle.layout.proofs.Refusals.{refusal-here, refusal-next, refusal-none, ou
 use Rattle.circuit.specs.Rank.{at}
 use Rattle.read.proofs.Lists.{any-append}
 use Rattle.filling.specs.Refusals.{badRows, notLowered}
-use Rattle.filling.specs.Calls.{rowFilled, rowCleared, eachRow, allRows, fillOutcome, fillCall, fillRowsCall}
+use Rattle.filling.specs.Calls.{rowFilled, eachRow, allRows, fillOutcome, fillCall, fillRowsCall}
 use Rattle.filling.proofs.Cleared.{Sizes, sizes, aux-width, inside}
 use Rattle.filling.proofs.OneRow.{one-row}
-use Rattle.fillable.specs.Listing.{Listing}
 use Rattle.fillable.specs.Given.{givenWords}
 use Rattle.fillable.specs.Targets.{Targets}
 use Rattle.filler.specs.declared.plan.Shape.{Shape}

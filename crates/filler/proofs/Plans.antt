@@ -4,12 +4,11 @@ use mathlib.Core.Path.{_≡_, refl, sym, ap, ap₂, _∙_, subst}
 use mathlib.Core.Logic.{_≢_, ⊎-elim}
 use mathlib.Core.Bool.{Bool, true, false, _&&_}
 use mathlib.Core.List.{List}
-use native.Mathlib.Numerals.{add-one}
 use native.Mathlib.Omega.{arith}
 use lib.Dec.{eqb}
 use lib.ListN.{length, set, length-set}
 use lib.Seq.{getD-set-same, getD-set-other}
-use borrow.Author.Tests.{eqb-true, eqb-false, eq-eqb, ne-eqb}
+use borrow.Author.Tests.{eqb-true, eqb-false}
 use Rattle.arithmetic.specs.declared.Triple.{Triple}
 use Rattle.arithmetic.specs.Base.{add, multiply}
 use Rattle.arithmetic.specs.Extension.{lift, plus, times}
@@ -22,7 +21,7 @@ use Rattle.layout.specs.declared.node.Expression.the-variants.{Base, Extension,
 use Rattle.layout.specs.Lists.{if_then_else_, bit}
 use Rattle.layout.specs.Words.{rowKind, used, expressionAt, isMain, apply}
 use Rattle.layout.specs.Tree.{Tree, treeOver, tree}
-use Rattle.layout.proofs.Tests.{same-or, last-or}
+use Rattle.layout.proofs.Tests.{last-or}
 use Rattle.layout.proofs.Lists.{clash}
 use Rattle.layout.proofs.Trees.{tree-fixed}
 use Rattle.layout.proofs.Valid.{valid-operands}
@@ -38,9 +37,9 @@ use Rattle.filler.specs.declared.plan.Shape.{Shape}
 use Rattle.filler.specs.declared.plan.Source.{Source}
 use Rattle.filler.specs.declared.plan.Source.the-variants.{Fixed, Word, Wide, Item, Join}
 use Rattle.filler.specs.Running.{Values, instructionAt, wordOf, tripleOf, stepped, ran, Sound, Roomy}
-use Rattle.filler.specs.Planning.{sourceOf, opOf, joined, stays, itemOf, plannedOf, planned, putFour, pushed, pushedMany, Staged, Stands, Ready, Says, Plannable, Planned, Deciding}
+use Rattle.filler.specs.Planning.{sourceOf, opOf, joined, stays, plannedOf, planned, putFour, pushed, pushedMany, Stands, Ready, Says, Plannable, Planned, Deciding}
 use Rattle.filler.proofs.Runs.{step-word, step-triple, stepped-lengths, step-other, ran-next}
-use Rattle.filler.proofs.Instructions.{op-small, joins-operation, CellOf, word-input, wide-input, ItemOf, main-item, aux-item, item-input, FixedOf, base-fixed, extension-fixed, challenge-fixed, fixed-leaf, instruction-other, instruction-here, ran-same}
+use Rattle.filler.proofs.Instructions.{op-small, joins-operation, word-input, wide-input, ItemOf, main-item, aux-item, item-input, FixedOf, base-fixed, extension-fixed, challenge-fixed, fixed-leaf, instruction-other, instruction-here, ran-same}
 
 module _ (s : Shape) (m challenges : List ℕ) where
   -- what writes no constant's entry leaves them all

@@ -6,7 +6,7 @@ use mathlib.Core.List.{List}
 use native.Mathlib.Omega.{arith}
 use lib.Dec.{eqb}
 use lib.ListN.{length, getD}
-use lib.Seq.{sets, length-sets, ext-getD}
+use lib.Seq.{sets, ext-getD}
 use Rattle.arithmetic.specs.declared.Triple.{Triple}
 use Rattle.arithmetic.specs.Extension.{lift}
 use Rattle.layout.specs.Lists.{if_then_else_, bit}
@@ -16,19 +16,17 @@ use Rattle.circuit.specs.Rank.{at}
 use Rattle.paths.proofs.Counts.{valid-top}
 use Rattle.reading.specs.Readings.{Assignment, isBase, value}
 use Rattle.reading.specs.Calls.{tripleAt}
-use Rattle.read.specs.Tables.{Filled}
 use Rattle.read.specs.Bases.{baseBit}
 use Rattle.filling.specs.Calls.{rowFilled}
 use Rattle.filling.proofs.Values.{base-lifted}
 use Rattle.filling.proofs.Solves.{sets-at, words-of}
-use Rattle.filling.proofs.Fills.{Written}
 use Rattle.filling.proofs.Holds.{Fitting, final}
 use Rattle.read.proofs.Lent.{valid-rows}
 use Rattle.filling.proofs.Cleared.{kind-one}
 use Rattle.filler.specs.declared.plan.Shape.{Shape}
 use Rattle.filler.specs.Running.{Values, ran}
 use Rattle.filler.specs.Planning.{Staged, Stands, Ready, Says, Planned}
-use Rattle.filler.specs.Rowing.{wordsFor, tripleFor, triplesFor, rowStored, Fits, Prepared}
+use Rattle.filler.specs.Rowing.{wordsFor, tripleFor, triplesFor, rowStored, Prepared}
 use Rattle.filler.specs.Filling.{shapeOf}
 use Rattle.filler.specs.Preparing.{Passed, Preparing, Resolved}
 use Rattle.filler.proofs.Plans.{ready-ran}

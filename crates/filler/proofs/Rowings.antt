@@ -1,17 +1,17 @@
 -- One row of tables of many: it lies in them, and the plan runs on it. Assumes nothing.
 use Prim.Native.Nat.{ℕ, _+_, _-_, _*_, _<_, _≤_}
-use mathlib.Core.Path.{_≡_, refl, sym, ap, _∙_}
+use mathlib.Core.Path.{_≡_, sym, ap, _∙_}
 use mathlib.Core.List.{List}
 use native.Mathlib.Nat.{mul-assoc, mul-comm, mul-le-mul-right}
 use native.Mathlib.Omega.{arith}
-use lib.ListN.{length, take, drop, length-take, length-drop}
+use lib.ListN.{length, drop, length-take, length-drop}
 use Rattle.filler.specs.declared.plan.Shape.{Shape}
-use Rattle.filler.specs.Running.{Sound, Runnable}
+use Rattle.filler.specs.Running.{Runnable}
 use lib.Seq.{sets}
 use borrow.Rule.Slice.PartMut.{midOf, putMid, mid-len}
 use Rattle.circuit.specs.Rank.{at}
 use Rattle.filling.specs.Promise.{windowOf}
-use Rattle.filler.specs.Rowing.{wordsFor, triplesFor, Fits, Inside, Rowed, Storing, StoringWide}
+use Rattle.filler.specs.Rowing.{wordsFor, triplesFor, Inside, Rowed, Storing, StoringWide}
 use Rattle.filler.proofs.Stores.{part-sets, words-length, triples-length}
 
 pub window-length : (kind width r : ℕ) (l : List ℕ) → r * width + kind * width ≤ length l → length (windowOf kind width r l) ≡ kind * width

@@ -1,5 +1,5 @@
 -- A plan, instruction by instruction: the tables keep their lengths, and one more is done after the others. Assumes nothing.
-use Prim.Native.Nat.{ℕ, zero, suc, _+_, _*_, _<_, _≤_}
+use Prim.Native.Nat.{ℕ, zero, suc, _+_, _<_, _≤_}
 use mathlib.Core.Path.{_≡_, refl, sym, ap, _∙_}
 use mathlib.Core.Logic.{_≢_, ⊎-elim}
 use mathlib.Core.List.{List}
@@ -15,7 +15,7 @@ use Rattle.read.proofs.Values.{put-length, put-other}
 use Rattle.reading.specs.Calls.{tripleAt}
 use Rattle.circuit.specs.Rank.{at}
 use Rattle.filler.specs.declared.run.Instruction.{Instruction}
-use Rattle.filler.specs.Running.{Values, instructionAt, wordOf, tripleOf, stepped, ran, Sound, Roomy, Doable, Runnable}
+use Rattle.filler.specs.Running.{Values, instructionAt, wordOf, tripleOf, stepped, ran, Doable, Runnable}
 
 -- one instruction: of a word, or of a triple
 module _ (x : Instruction) (main aux : List ℕ) (v : Values) where

@@ -1,15 +1,14 @@
 -- The filled row says an assignment: its old cells and the next row's are as lent, and each new cell holds its expression's value. Assumes nothing.
-use Prim.Native.Nat.{ℕ, suc, _+_, _-_, _*_, _/_, _<_, _≤_}
+use Prim.Native.Nat.{ℕ, _+_, _-_, _*_, _/_, _<_}
 use mathlib.Core.Path.{_≡_, refl, sym, ap, _∙_}
 use mathlib.Core.Bool.{Bool, true, false}
-use mathlib.Core.Option.{Option, some}
+use mathlib.Core.Option.{some}
 use mathlib.Core.List.{List}
 use native.Mathlib.Omega.{arith}
 use lib.Dec.{ltb}
-use lib.ListN.{length, getD, drop}
-use lib.Seq.{sets, length-sets, getD-drop}
+use lib.ListN.{length, getD}
+use lib.Seq.{getD-drop}
 use borrow.Author.Tests.{ltb-true}
-use Rattle.arithmetic.specs.declared.Triple.{Triple}
 use Rattle.arithmetic.specs.Extension.{lift}
 use Rattle.layout.specs.declared.node.Position.{Position}
 use Rattle.layout.specs.declared.node.Position.the-variants.{Main, Aux, NextMain, NextAux}
@@ -20,8 +19,7 @@ use Rattle.layout.specs.Tree.{tree}
 use Rattle.circuit.specs.Rank.{at}
 use Rattle.reading.specs.Readings.{Assignment, inputValue, value}
 use Rattle.reading.specs.Calls.{tripleAt, nextRow, assigned}
-use Rattle.filling.specs.Constraints.{expressionOf}
-use Rattle.filling.specs.Calls.{mainFilled, auxFilled, rowFilled}
+use Rattle.filling.specs.Calls.{mainFilled, rowFilled}
 use Rattle.filling.specs.Promise.{Holds}
 use Rattle.filling.proofs.Values.{fair, dual}
 use Rattle.filling.proofs.Tables.{sets-before, sets-next}
@@ -29,7 +27,6 @@ use Rattle.filling.proofs.Fills.{Written, written-main, written-aux}
 use Rattle.filling.proofs.Holds.{Fitting, final, row-holds}
 use Rattle.fillable.specs.Targets.{Targets}
 use Rattle.filler.specs.declared.plan.Shape.{Shape}
-use Rattle.filler.specs.declared.plan.Source.{Source}
 use Rattle.filler.specs.declared.plan.Source.the-variants.{Word, Wide, Item}
 use Rattle.filler.specs.Planning.{sourceOf, Says}
 use Rattle.filler.specs.Filling.{shapeOf}

@@ -1,13 +1,13 @@
 -- Lists that have passed the tests: their expressions are nodes that can be worked out in the order of the items, in rows of this shape. Assumes nothing.
 use Prim.Native.Nat.{ℕ, _+_, _-_, _*_, _/_, _<_, _≤_}
-use mathlib.Core.Path.{_≡_, sym, ap, _∙_}
+use mathlib.Core.Path.{_≡_, sym, _∙_}
 use mathlib.Core.Logic.{⊎-elim}
-use mathlib.Core.Bool.{Bool, true, false, _||_}
-use mathlib.Core.Option.{Option, some}
+use mathlib.Core.Bool.{Bool, false}
+use mathlib.Core.Option.{some}
 use mathlib.Core.List.{List, _++_}
 use native.Mathlib.Omega.{arith}
 use lib.Dec.{leb}
-use lib.ListN.{length, getD}
+use lib.ListN.{length}
 use borrow.Author.Tests.{leb-false}
 use Rattle.layout.specs.declared.node.Position.the-variants.{Main, Aux}
 use Rattle.layout.specs.Lists.{In, any}
@@ -17,13 +17,12 @@ use Rattle.layout.specs.NotCircuit.{badId}
 use Rattle.layout.proofs.Tests.{neither, below-or}
 use Rattle.walking.specs.Paths.{walk}
 use Rattle.circuit.specs.Rank.{at}
-use Rattle.reading.specs.Readings.{isBase}
 use Rattle.read.proofs.Lists.{in-at}
 use Rattle.lowering.proofs.ListLaws.{any-false, in-left, in-right}
 use Rattle.filling.specs.Constraints.{expressionOf, readsUnfilled}
 use Rattle.filling.specs.Refusals.{beyond, mainsWrong, auxsWrong, notLowered}
 use Rattle.filling.proofs.Items.{Item, item}
-use Rattle.filling.proofs.Settled.{Listed, RightMain, RightAux, main-right, aux-right}
+use Rattle.filling.proofs.Settled.{Listed, main-right, aux-right}
 use Rattle.filling.proofs.Accepts.{kinds, any-walks}
 use Rattle.filling.proofs.Holds.{Fitting}
 use Rattle.filler.specs.declared.plan.Shape.{Shape}

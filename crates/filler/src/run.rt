@@ -6,7 +6,7 @@ use read::value::entry_at;
 use read::value::keep;
 ghost use mathlib.Core.Path.{_≡_};
 ghost use mathlib.Core.Logic.{_≢_};
-ghost use Prim.Native.Nat.{_+_, _*_, _<_, _≤_};
+ghost use Prim.Native.Nat.{_+_, _*_, _<_};
 ghost use lib.ListN.{length};
 ghost use Rattle.filler.specs.Running.{instructionAt, wordOf, both, mixed, tripleOf, stepped, ran, Doable, Runnable};
 

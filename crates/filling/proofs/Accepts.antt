@@ -1,8 +1,8 @@
 -- What an accepted fill has passed, and what an evaluation on such tables says. Assumes nothing.
-use Prim.Native.Nat.{ℕ, zero, suc, _+_, _*_, _/_, _%_, _≤_}
+use Prim.Native.Nat.{ℕ, _+_, _*_, _/_, _%_, _≤_}
 use mathlib.Core.Path.{_≡_, refl, sym, _∙_, ap}
 use mathlib.Core.Logic.{_⊎_, inl, inr, ⊎-elim}
-use mathlib.Core.Bool.{Bool, true, false, _&&_, _||_, not}
+use mathlib.Core.Bool.{Bool, false, _&&_, _||_, not}
 use mathlib.Core.List.{List, [], _∷_, _++_}
 use native.Mathlib.Omega.{arith}
 use lib.ListN.{length, getD, replicate, length-replicate}
@@ -17,7 +17,7 @@ use Rattle.layout.specs.Lists.{In, any}
 use Rattle.layout.specs.Words.{rowKind, used, limit, expressionAt}
 use Rattle.layout.specs.Tree.{tree}
 use Rattle.layout.specs.NotCircuit.{notCircuit, badHeader, badId, badWord}
-use Rattle.layout.specs.Outcomes.{Outcome, refusal, numbered, outcome}
+use Rattle.layout.specs.Outcomes.{Outcome, refusal, outcome}
 use Rattle.layout.specs.Answers.{accepted}
 use Rattle.layout.specs.Calls.{reading}
 use Rattle.layout.proofs.Tests.{neither, either, or-false}

@@ -1,9 +1,8 @@
 -- An accepted fill: each new cell holds its expression's value, every listed constraint is zero, and no other words do that. Assumes nothing.
-use Prim.Native.Nat.{ℕ, zero, suc, _+_, _-_, _*_, _/_, _<_, _≤_}
+use Prim.Native.Nat.{ℕ, _+_, _-_, _*_, _/_, _<_, _≤_}
 use mathlib.Core.Path.{_≡_, refl, sym, _∙_, ap}
 use mathlib.Core.Logic.{_⊎_, inl, inr, ⊎-elim}
 use mathlib.Core.Bool.{false}
-use mathlib.Core.Option.{Option, some}
 use mathlib.Core.List.{List, [], _∷_, _++_}
 use native.Mathlib.Decide.{decLt}
 use native.Mathlib.Omega.{arith}
@@ -12,7 +11,6 @@ use lib.Seq.{sets, length-sets, getD-take, getD-drop, ext-getD}
 use Rattle.arithmetic.specs.declared.Triple.{Triple}
 use Rattle.arithmetic.specs.Base.{p}
 use Rattle.arithmetic.specs.Extension.{lift}
-use Rattle.layout.specs.declared.node.Position.the-variants.{Main, Aux}
 use Rattle.layout.specs.Lists.{In, any}
 use Rattle.layout.specs.Words.{rowKind}
 use Rattle.layout.specs.Tree.{tree}
@@ -21,12 +19,10 @@ use Rattle.layout.specs.Answers.{accepted}
 use Rattle.layout.proofs.Tests.{same-or}
 use Rattle.reading.specs.Readings.{Assignment, value}
 use Rattle.reading.specs.Calls.{tripleAt, assigned}
-use Rattle.filling.specs.Constraints.{expressionOf}
-use Rattle.filling.specs.Refusals.{mainsWrong, auxsWrong}
-use Rattle.filling.specs.Calls.{worth, mainFilled, auxFilled, rowFilled, fillCall}
+use Rattle.filling.specs.Calls.{mainFilled, auxFilled, rowFilled, fillCall}
 use Rattle.filling.specs.Promise.{newMain, newAux, Zero, Holds, Solves}
 use Rattle.lowering.proofs.ListLaws.{in-left, in-right, in-cases}
-use Rattle.filling.proofs.Values.{Agree, Good, base-lifted, any-split}
+use Rattle.filling.proofs.Values.{Agree, Good, any-split}
 use Rattle.filling.proofs.Settled.{SettledMain, SettledAux, Listed, Vanishing, fewer-good, one-main, one-aux, zero-main, zero-aux, main-zero, aux-zero}
 use Rattle.filling.proofs.Tables.{sets-before, sets-after, sets-part, sets-next, tables-agree, tables-good, any-low, low-any, any-join}
 use Rattle.filling.proofs.Fills.{Written, written-main, written-aux, low-main, low-aux}

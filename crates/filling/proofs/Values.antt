@@ -1,7 +1,6 @@
 -- A value depends on the cells that are read only; it is an element of its field where those cells are. Assumes nothing.
 use Prim.Native.Nat.{ℕ, zero, suc, _<_}
 use mathlib.Core.Path.{_≡_, refl, sym, _∙_, ap, ap₂}
-use mathlib.Core.Logic.{_⊎_, inl, inr, ⊎-elim}
 use mathlib.Core.Bool.{Bool, true, false, _&&_, not}
 use mathlib.Core.List.{List, [], _∷_, _++_}
 use native.Mathlib.Omega.{arith}
@@ -17,7 +16,7 @@ use Rattle.layout.specs.declared.node.Op.{Op}
 use Rattle.layout.specs.declared.node.Op.the-variants.{Add, Multiply}
 use Rattle.layout.specs.declared.node.Expression.{Expression}
 use Rattle.layout.specs.declared.node.Expression.the-variants.{Base, Extension, Challenge, Operation, Input}
-use Rattle.layout.specs.Lists.{In, any}
+use Rattle.layout.specs.Lists.{any}
 use Rattle.layout.specs.Words.{rowKind, used, word, expressionAt, isNext, column, apply}
 use Rattle.layout.specs.Tree.{baseLeaf, extensionLeaf, challengeLeaf, inputLeaf, Tree, leaf, branch, treeOver, unfolded, tree}
 use Rattle.layout.specs.NotCircuit.{badIndex, badRow, badWord, badWords, badExpression, badNode, notCircuit}

@@ -4,10 +4,8 @@ use Prim.Native.Nat.{ℕ, zero, suc, _<_, _≤_}
 use mathlib.Core.Path.{_≡_, refl, sym, ap, _∙_}
 use mathlib.Core.Logic.{⊎-elim}
 use mathlib.Core.Bool.{true, false}
-use mathlib.Core.Option.{none}
 use mathlib.Core.List.{List}
 use native.Mathlib.Omega.{arith}
-use Rattle.arithmetic.specs.Base.{p}
 use Rattle.layout.specs.declared.node.Expression.{Expression}
 use Rattle.layout.specs.declared.node.Node.{Node}
 use Rattle.layout.specs.Words.{used, limit, nodeAt, expressionAt, registered, made}
@@ -18,7 +16,6 @@ use Rattle.circuit.proofs.Places.{made-here}
 use Rattle.layout.proofs.Valid.{valid-operands, valid-ends}
 use Rattle.layout.proofs.Trees.{over-same, levels-enough, tree-fixed}
 use Rattle.building.specs.Building.{Built, built}
-use Rattle.grown.specs.Results as results
 use Rattle.grown.specs.Results.{alike, Unique}
 use Rattle.build.proofs.Making.{made-one, good-operands, old-node, made-circuit}
 

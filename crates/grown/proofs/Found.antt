@@ -14,7 +14,6 @@ use Rattle.layout.proofs.Tests.{or-false}
 use Rattle.layout.proofs.Lists.{clash, and-true, Found, first-found}
 use Rattle.classes.proofs.Shapes.{same-refl}
 use Rattle.building.specs.Building.{Built, built, find, orElse, findOrMake, full}
-use Rattle.grown.specs.Results as results
 use Rattle.grown.specs.Results.{leafTree, alike}
 use Rattle.build.proofs.Making.{made-one}
 use Rattle.build.proofs.Stepping.{find-below}

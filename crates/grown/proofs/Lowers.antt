@@ -7,7 +7,7 @@ use mathlib.Core.List.{List, []}
 use native.Mathlib.Omega.{arith}
 use lib.ListN.{length}
 use Rattle.layout.specs.Lists.{if_then_else_}
-use Rattle.layout.specs.Words.{used, limit, registered}
+use Rattle.layout.specs.Words.{used, limit}
 use Rattle.layout.specs.Outcomes.{refusal}
 use Rattle.lowering.specs.Lowering.{Lowering, M, tooHigh, loop, lowered}
 use Rattle.lowering.specs.Refusals.{badColumns}

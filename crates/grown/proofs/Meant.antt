@@ -29,13 +29,12 @@ use Rattle.lowering.specs.Lowering.{Lowering}
 use Rattle.lowering.proofs.Shape.{leafE, exprOf}
 use Rattle.lowering.proofs.Words.{look, look-in, look-lt, says, valid-sound}
 use Rattle.lowering.proofs.Proper.{proper-of}
-use Rattle.lowering.proofs.Accepts as accepts
 use Rattle.grown.specs.Promise.{with-new}
 use Rattle.grown.specs.Evaluated.{Wide, NewWords, evaluates}
 use Rattle.grown.proofs.Remains.{Remains}
 use Rattle.grown.proofs.Agrees.{Agree, value-agrees}
 use Rattle.grown.proofs.Evaluates.{evaluates-to, wide-stored}
-use Rattle.grown.proofs.Stores.{stored-main, stored-aux, stored-next, words, triples}
+use Rattle.grown.proofs.Stores.{stored-main, stored-aux, stored-next, triples}
 
 module _ (mc ac : ℕ) (m : List ℕ) (x : Lowering) (left : Remains mc ac m x) (valid : notCircuit (x .circuit) ≡ false) (main aux challenges : List ℕ) (wide : Wide (x .circuit) main aux challenges) where
   -- one row or two

@@ -6,7 +6,6 @@ use mathlib.Core.Option.{Option, none, some}
 use mathlib.Core.List.{List}
 use borrow.Author.Tests.{eqb-true}
 use Rattle.arithmetic.specs.declared.Triple.{Triple}
-use Rattle.arithmetic.specs.Base.{p}
 use Rattle.arithmetic.specs.Extension.{lift, unlifts}
 use Rattle.layout.specs.declared.node.Op.{Op}
 use Rattle.layout.specs.declared.node.Op.the-variants.{Add, Multiply}

@@ -7,8 +7,6 @@ use native.Mathlib.Omega.{arith}
 use lib.ListN.{length, set, take, drop, length-drop, drop-of-length-le}
 use lib.Seq.{sets, take-all, take-add, length-take-le}
 use borrow.Rule.Slice.PartMut.{midOf, putMid}
-use Rattle.layout.specs.Lists.{if_then_else_}
-use Rattle.frame.specs.Puts.{Put}
 use Rattle.frame.proofs.Writing.{put-then, put-none}
 use Rattle.stream.specs.Stream.{Program, Stream, stream, fedOne, fed, Line, lineOf, gathered, Gathers, AnsweredLine, Advanced, Taken, Poured}
 use Rattle.stream.proofs.Streaming.{fed-append}

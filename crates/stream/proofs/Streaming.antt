@@ -1,5 +1,5 @@
 -- Laws of a program on its input: part after part is the same as all at once, and all at once is line by line. Assumes nothing.
-use Prim.Native.Nat.{ℕ, zero, suc, _+_, _≤_, _<_}
+use Prim.Native.Nat.{ℕ, zero, suc, _≤_, _<_}
 use mathlib.Core.Path.{_≡_, refl, sym, ap, _∙_}
 use mathlib.Core.Bool.{Bool, true, false}
 use mathlib.Core.List.{List, [], _∷_, _++_, append-assoc, append-nil}
@@ -10,7 +10,7 @@ use lib.Dec.{ltb, eqb}
 use borrow.Author.Tests.{ltb-true, ltb-false}
 use Rattle.layout.specs.Lists.{if_then_else_}
 use Rattle.framing.specs.Frames.{begin, lines}
-use Rattle.stream.specs.Stream.{Program, Stream, stream, Fed, keptWith, fedOne, fed, endedWith, answered, whole}
+use Rattle.stream.specs.Stream.{Program, Stream, stream, keptWith, fedOne, fed, endedWith, answered, whole}
 
 -- so many characters of a line are kept
 kept-with : (n : ℕ) (l : List ℕ) (b : ℕ) → keptWith n (take n l) b ≡ take n (l ++ (b ∷ []))

@@ -1,5 +1,4 @@
-use native.Mathlib.Omega.{arith}
-use mathlib.Core.Path.{_≡_, sym, ap, _∙_}
+use mathlib.Core.Path.{_∙_}
 use Rattle.filler.proofs.Outcomes.{told-circuit, told-one}
 use Rattle.filler.proofs.Outcomes.{short-circuit}
 use borrow.Author.Needs.{needs}

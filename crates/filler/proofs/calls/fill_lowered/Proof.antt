@@ -1,17 +1,10 @@
 use borrow.Author.Needs.{needs}
 use native.Mathlib.Omega.{arith}
-use mathlib.Core.Path.{_≡_, sym, ap, _∙_, subst}
-use mathlib.Core.List.{List}
-use Prim.Native.Nat.{ℕ, suc, _-_, _*_}
+use mathlib.Core.Path.{sym, _∙_}
 use Rattle.paths.proofs.Counts.{valid-top}
 use Rattle.read.proofs.Tables.{sorted-ranked}
 use Rattle.filling.proofs.Cleared.{kind-one}
-use Rattle.layout.specs.Words.{rowKind}
-use Rattle.filling.specs.Calls.{rowFilled, eachRow}
-use Rattle.filler.specs.declared.plan.Shape.{Shape}
-use Rattle.filler.specs.Filling.{Tested}
 use Rattle.filler.proofs.Outcomes.{rows-some, columns-fit, refused-lowered, all-passed, all-within, all-filled}
-use borrow.Author.Needs.{needs}
 use Rattle.filler.proofs.calls.fill_lowered.Statement.{statement}
 use Rattle.filler.proofs.calls.fill_lowered.Tie as tie
 

@@ -2,7 +2,6 @@ use borrow.Author.Needs.{needs}
 use native.Mathlib.Nat.{div-div-eq-div-mul}
 use mathlib.Core.Path.{sym}
 use lib.ListN.{length}
-use borrow.Author.Needs.{needs}
 use Rattle.filler.proofs.calls.shape_of.Statement.{statement}
 use Rattle.filler.proofs.calls.shape_of.Tie as tie
 

@@ -1,5 +1,5 @@
 use Prim.Native.Nat.{_-_}
-use mathlib.Core.Path.{_≡_, ap, _∙_}
+use mathlib.Core.Path.{_≡_}
 use native.Mathlib.Omega.{arith}
 use Rattle.filler.proofs.Plans.{Planning, planning-start, planning-room, planning-decides, planning-next}
 use Rattle.paths.proofs.Counts.{valid-top}

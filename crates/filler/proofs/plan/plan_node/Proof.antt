@@ -1,9 +1,6 @@
 use native.Mathlib.Omega.{arith}
-use mathlib.Core.Path.{_≡_, sym, ap, _∙_}
-use Rattle.layout.proofs.Valid.{valid-fits, valid-operands}
-use Rattle.layout.specs.Words.{expressionAt}
-use Rattle.layout.specs.declared.node.Expression.{Expression}
-use Rattle.filler.specs.Planning.{sourceOf, planned}
+use Rattle.layout.proofs.Valid.{valid-fits}
+use Rattle.filler.specs.Planning.{planned}
 use Rattle.filler.proofs.Instructions.{column-small, source-join, source-known}
 use borrow.Author.Needs.{needs}
 use Rattle.filler.proofs.plan.plan_node.Statement.{statement}

@@ -1,7 +1,4 @@
-use mathlib.Core.Path.{_≡_, refl, ap, _∙_}
-use Prim.Native.Nat.{ℕ}
-use mathlib.Core.List.{List}
-use Rattle.arithmetic.specs.declared.Triple.{Triple}
+use mathlib.Core.Path.{refl}
 use Rattle.filler.proofs.Fixes.{fixed-triple}
 use borrow.Author.Needs.{needs}
 use Rattle.filler.proofs.prepare.fix_node.Statement.{statement}

@@ -1,5 +1,4 @@
 use Prim.Native.Nat.{_-_}
-use mathlib.Core.Path.{_≡_, ap, _∙_}
 use native.Mathlib.Omega.{arith}
 use Rattle.filler.proofs.Fixes.{Resolving, resolving-start, resolving-next, resolving-done}
 use Rattle.filler.proofs.prepare.resolve.Statement.{statement}

@@ -1,5 +1,4 @@
 use borrow.Author.Needs.{needs}
-use mathlib.Core.Path.{_≡_, _∙_}
 use Rattle.filler.proofs.Rowings.{row-storing, row-storing-wide}
 use Rattle.filler.proofs.row.fill_row.Statement.{statement}
 use Rattle.filler.proofs.row.fill_row.Tie as tie

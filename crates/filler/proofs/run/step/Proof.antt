@@ -1,5 +1,4 @@
 use native.Mathlib.Omega.{arith}
-use mathlib.Core.Path.{_≡_, sym, ap, _∙_}
 use Rattle.filler.proofs.Runs.{word-done, triple-done}
 use borrow.Author.Needs.{needs}
 use Rattle.filler.proofs.run.step.Statement.{statement}

@@ -1,7 +1,6 @@
 use native.Mathlib.Omega.{arith}
 use mathlib.Core.Path.{_∙_, ap, ap₂}
 use borrow.Author.Tests.{eq-eqb, ne-eqb, lt-ltb, le-ltb}
-use Rattle.arithmetic.specs.declared.Triple.{Triple}
 use Rattle.filler.specs.Running.{both, mixed}
 use borrow.Author.Needs.{needs}
 use Rattle.filler.proofs.run.triple_of.Statement.{statement}

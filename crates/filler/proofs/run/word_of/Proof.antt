@@ -1,6 +1,5 @@
 use native.Mathlib.Omega.{arith}
 use borrow.Author.Tests.{eq-eqb, ne-eqb}
-use mathlib.Core.Path.{_∙_}
 use borrow.Author.Needs.{needs}
 use Rattle.filler.proofs.run.word_of.Statement.{statement}
 use Rattle.filler.proofs.run.word_of.Tie as tie
