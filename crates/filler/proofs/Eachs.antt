@@ -12,7 +12,7 @@ use Rattle.filling.specs.Promise.{windowOf}
 use Rattle.filler.specs.declared.plan.Shape.{Shape}
 use Rattle.filler.specs.Running.{Values}
 use Rattle.filler.specs.Planning.{Ready}
-use Rattle.filler.specs.Rowing.{wordsFor, triplesFor, rowStored, Inside, Rowed, RowDone}
+use Rattle.filler.specs.Rowing.{wordsFor, triplesFor, rowStored, RowInside, RowFillable, RowDone}
 use Rattle.filler.specs.Filling.{Fillable}
 use Rattle.filler.proofs.Runs.{ran-lengths}
 use Rattle.filler.proofs.Stores.{words-length, triples-length, window-sets}
@@ -37,14 +37,14 @@ module _ (s : Shape) (filled many : ℕ) (m mains auxs challenges targets bases 
   filling-start = record { within = omega arith; same-main = refl; same-aux = refl; same-words = refl; same-triples = refl; ready = able .ready; rest = refl }
 
   module _ (main aux words triples : List ℕ) (r : ℕ) (x : Filling s filled m mains auxs challenges main₀ aux₀ words₀ triples₀ main aux words triples r) (some : 0 < r) where
-    inside-now : Inside s (rowKind m) (r - 1) main aux
+    inside-now : RowInside s (rowKind m) (r - 1) main aux
     inside-now =
         let w = x .within in
         let i = able .within .each (r - 1) (omega arith) in
         record { main-inside = rw (x .same-main) (i .main-inside); aux-inside = rw (x .same-aux) (i .aux-inside) }
 
-    pub filling-rowed : Rowed s (rowKind m) (r - 1) many plan targets bases main aux words triples
-    filling-rowed = record { fits = able .prepared .fits; inside = inside-now; rooms = x .ready .rooms }
+    pub filling-row : RowFillable s (rowKind m) (r - 1) many plan targets bases main aux words triples
+    filling-row = record { fits = able .prepared .fits; inside = inside-now; rooms = x .ready .rooms }
 
     module _ (main′ aux′ words′ triples′ : List ℕ) (d : RowDone s (rowKind m) (r - 1) many plan targets bases main aux words triples main′ aux′ words′ triples′) where
       abbrev wm : List ℕ
@@ -112,7 +112,7 @@ module _ (s : Shape) (m mains auxs challenges main aux : List ℕ) (no-main : le
   abbrev g : List ℕ × List ℕ → List ℕ × List ℕ
   g = rowFilled (s .main) (s .aux) m mains auxs challenges
 
-  at-none : (r : ℕ) → Inside s (rowKind m) r main aux → atRow (rowKind m) g (s .row) (3 * s .wide) r (main, aux) ≡ (main, aux)
+  at-none : (r : ℕ) → RowInside s (rowKind m) r main aux → atRow (rowKind m) g (s .row) (3 * s .wide) r (main, aux) ≡ (main, aux)
   unfolding atRow
   at-none r i =
       let p : sets main (r * s .row) (windowOf (rowKind m) (s .row) r main) ≡ main = window-sets main [] (r * s .row) (rowKind m * s .row) 0 (i .main-inside) (omega arith) in
@@ -120,7 +120,7 @@ module _ (s : Shape) (m mains auxs challenges main aux : List ℕ) (no-main : le
       ap (λ (t : List ℕ × List ℕ). (sets main (r * s .row) (t .0), sets aux (r * (3 * s .wide)) (t .1))) (none-filled (s .main) (s .aux) m mains auxs challenges no-main no-aux (windowOf (rowKind m) (s .row) r main, windowOf (rowKind m) (3 * s .wide) r aux))
       ∙ (λ k. (p k, q k))
 
-  pub each-none : (n : ℕ) → ((r : ℕ) → r < n → Inside s (rowKind m) r main aux) → eachRow (rowKind m) g (s .row) (3 * s .wide) n (main, aux) ≡ (main, aux)
+  pub each-none : (n : ℕ) → ((r : ℕ) → r < n → RowInside s (rowKind m) r main aux) → eachRow (rowKind m) g (s .row) (3 * s .wide) n (main, aux) ≡ (main, aux)
   unfolding eachRow
   each-none zero h = refl
   each-none (suc n) h = ap (eachRow (rowKind m) g (s .row) (3 * s .wide) n) (at-none n (h n (omega arith))) ∙ each-none n (λ r l. h r (omega arith))

@@ -25,8 +25,8 @@ use Rattle.filling.proofs.OneRow.{one-row}
 use Rattle.fillable.specs.Given.{givenWords}
 use Rattle.fillable.specs.Targets.{Targets}
 use Rattle.filler.specs.declared.plan.Shape.{Shape}
-use Rattle.filler.specs.Preparing.{Passed}
-use Rattle.filler.specs.Filling.{shapeOf, Within, Given}
+use Rattle.filler.specs.Preparing.{RightLists}
+use Rattle.filler.specs.Filling.{shapeOf, Within, GivenTables}
 
 module _ (mainCount auxCount rows : ℕ) (m mains auxs challenges main aux : List ℕ) where
   abbrev call : Outcome (Unit {0}) (List ℕ × List ℕ)
@@ -98,7 +98,7 @@ module _ (mainCount auxCount rows : ℕ) (m mains auxs challenges main aux : Lis
   pub told-one : fillRowsCall mainCount auxCount m mains auxs challenges (rowKind m) main aux ≡ fillCall mainCount auxCount m mains auxs challenges main aux
   told-one = one-row mainCount auxCount m mains auxs challenges main aux
 
-  module _ (order rank : List ℕ) (ok : Given mainCount auxCount rows m order rank mains auxs challenges main aux) where
+  module _ (order rank : List ℕ) (ok : GivenTables mainCount auxCount rows m order rank mains auxs challenges main aux) where
     valid : notCircuit m ≡ false
     valid = ok .listing .valid
 
@@ -123,7 +123,7 @@ module _ (mainCount auxCount rows : ℕ) (m mains auxs challenges main aux : Lis
     shape = shapeOf mainCount auxCount mains auxs (length main / rows) (length aux / (3 * rows))
 
     module _ (targets : List ℕ) (right : lowered ≡ false) (found : Targets mainCount auxCount m mains auxs targets) (main-small : length main ≤ 1152921504606846976) (aux-small : length aux ≤ 1152921504606846976) where
-      pub all-passed : Passed shape m mains auxs challenges targets
+      pub all-passed : RightLists shape m mains auxs challenges targets
       all-passed =
           let c = div-le-self (length main) rows in
           let d = div-le-self (length aux) (3 * rows) in

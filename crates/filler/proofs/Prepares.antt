@@ -28,7 +28,7 @@ use Rattle.filler.specs.Running.{Values, ran}
 use Rattle.filler.specs.Planning.{Staged, Stands, Ready, Says, Planned}
 use Rattle.filler.specs.Rowing.{wordsFor, tripleFor, triplesFor, rowStored, Prepared}
 use Rattle.filler.specs.Filling.{shapeOf}
-use Rattle.filler.specs.Preparing.{Passed, Preparing, Resolved}
+use Rattle.filler.specs.Preparing.{RightLists, Preparing, Resolved}
 use Rattle.filler.proofs.Plans.{ready-ran}
 use Rattle.filler.proofs.Stores.{words-length, words-at, triples-length, triples-at}
 use Rattle.filler.proofs.Says.{main-written, aux-written, new-main, new-aux, row-says}
@@ -48,7 +48,7 @@ written-triple vs l c k h g =
     λ i. record { c0 = e₀ i; c1 = e₁ i; c2 = e₂ i }
 
 module _ (s : Shape) (m mains auxs challenges targets bases plan₀ : List ℕ) (given : Preparing s m mains auxs challenges targets bases plan₀) (order rank alias plan : List ℕ) (done many : ℕ) (staged : Staged s m targets order rank done) (planned : Planned s m bases targets challenges order rank alias plan done many) (targets′ : List ℕ) (resolved : Resolved targets alias targets′ (s .items)) where
-  ok : Passed s m mains auxs challenges targets
+  ok : RightLists s m mains auxs challenges targets
   ok = given .passed
 
   -- each item's value has an entry

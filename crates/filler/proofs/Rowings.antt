@@ -11,7 +11,7 @@ use lib.Seq.{sets}
 use borrow.Rule.Slice.PartMut.{midOf, putMid, mid-len}
 use Rattle.circuit.specs.Rank.{at}
 use Rattle.filling.specs.Promise.{windowOf}
-use Rattle.filler.specs.Rowing.{wordsFor, triplesFor, Inside, Rowed, Storing, StoringWide}
+use Rattle.filler.specs.Rowing.{wordsFor, triplesFor, RowInside, RowFillable, Storing, StoringWide}
 use Rattle.filler.proofs.Stores.{part-sets, words-length, triples-length}
 
 pub window-length : (kind width r : ℕ) (l : List ℕ) → r * width + kind * width ≤ length l → length (windowOf kind width r l) ≡ kind * width
@@ -20,7 +20,7 @@ window-length kind width r l h = omega (arith, length-take (kind * width) (drop 
 three-out : (k w : ℕ) → k * (3 * w) ≡ 3 * (k * w)
 three-out k w = sym (mul-assoc k 3 w) ∙ ap (λ (x : ℕ). x * w) (mul-comm k 3) ∙ mul-assoc 3 k w
 
-pub row-runnable : (s : Shape) (kind r many : ℕ) (plan targets bases main aux words triples : List ℕ) → Rowed s kind r many plan targets bases main aux words triples
+pub row-runnable : (s : Shape) (kind r many : ℕ) (plan targets bases main aux words triples : List ℕ) → RowFillable s kind r many plan targets bases main aux words triples
     → Runnable plan many (windowOf kind (s .row) r main) (windowOf kind (3 * s .wide) r aux) words triples
 row-runnable s kind r many plan targets bases main aux words triples h =
     let f = h .fits in
@@ -37,7 +37,7 @@ pub record Alone (s : Shape) (r : ℕ) (main aux : List ℕ) : Type 0 where
   pub main-alone : r * s .row + s .row ≤ length main
   pub aux-alone : r * (3 * s .wide) + 3 * s .wide ≤ length aux
 
-pub row-alone : (s : Shape) (kind r : ℕ) (main aux : List ℕ) → 1 ≤ kind → Inside s kind r main aux → Alone s r main aux
+pub row-alone : (s : Shape) (kind r : ℕ) (main aux : List ℕ) → 1 ≤ kind → RowInside s kind r main aux → Alone s r main aux
 row-alone s kind r main aux k h =
     let a : 1 * s .row ≤ kind * s .row = mul-le-mul-right (s .row) k in
     let b : 1 * (3 * s .wide) ≤ kind * (3 * s .wide) = mul-le-mul-right (3 * s .wide) k in
@@ -79,7 +79,7 @@ module _ (s : Shape) (r : ℕ) (aux targets bases words triples : List ℕ) (h :
       ∙ ap (λ (k : ℕ). sets aux k (triplesFor bases (words, triples) targets (s .fresh) (s .items - s .fresh))) from
 
 -- what a row's stores ask, from what the row asks
-module _ (s : Shape) (kind r many : ℕ) (plan targets bases main aux words triples words′ : List ℕ) (h : Rowed s kind r many plan targets bases main aux words triples) (same-words : length words′ ≡ length words) where
+module _ (s : Shape) (kind r many : ℕ) (plan targets bases main aux words triples words′ : List ℕ) (h : RowFillable s kind r many plan targets bases main aux words triples) (same-words : length words′ ≡ length words) where
   pub row-storing : Storing s r main targets words′
   row-storing =
       let f = h .fits in

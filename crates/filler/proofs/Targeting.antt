@@ -27,13 +27,13 @@ use Rattle.filling.proofs.Accepts.{kinds, any-walks}
 use Rattle.filling.proofs.Holds.{Fitting}
 use Rattle.filler.specs.declared.plan.Shape.{Shape}
 use Rattle.filler.specs.Ordering.{Targeted}
-use Rattle.filler.specs.Preparing.{Passed}
+use Rattle.filler.specs.Preparing.{RightLists}
 
 listed : (m qs : List ℕ) → badId m qs ≡ false → Listed m qs
 unfolding badId
 listed m qs h q k = leb-false (used m) q (any-false (leb (used m)) qs h q k)
 
-module _ (s : Shape) (m mains auxs challenges targets : List ℕ) (ok : Passed s m mains auxs challenges targets) where
+module _ (s : Shape) (m mains auxs challenges targets : List ℕ) (ok : RightLists s m mains auxs challenges targets) where
   right-lists : (mainsWrong (s .aux) m (s .main) mains ≡ false) × (auxsWrong (s .main + length mains) m (s .aux) auxs ≡ false)
   unfolding notLowered
   right-lists = neither (mainsWrong (s .aux) m (s .main) mains) (auxsWrong (s .main + length mains) m (s .aux) auxs) (ok .lowered)

@@ -17,7 +17,7 @@ use Rattle.filler.specs.declared.plan.Shape.{Shape}
 use Rattle.filler.specs.Planning.{Small}
 
 -- lists that are right, in rows of this shape
-pub record Passed (s : Shape) (m mains auxs challenges targets : List ℕ) : Type 0 where
+pub record RightLists (s : Shape) (m mains auxs challenges targets : List ℕ) : Type 0 where
   pub valid : notCircuit m ≡ false
   pub main-ids : badId m mains ≡ false
   pub aux-ids : badId m auxs ≡ false
@@ -32,7 +32,7 @@ pub record Passed (s : Shape) (m mains auxs challenges targets : List ℕ) : Typ
 
 -- with room for the plan
 pub record Preparing (s : Shape) (m mains auxs challenges targets bases plan : List ℕ) : Type 0 where
-  pub passed : Passed s m mains auxs challenges targets
+  pub passed : RightLists s m mains auxs challenges targets
   pub base-bits : Filled (used m) (at bases) (baseBit m)
   pub bases-room : 4096 ≤ length bases
   pub targets-room : 8192 ≤ length targets

@@ -56,13 +56,13 @@ pub record Fits (s : Shape) (kind many : ℕ) (plan targets bases : List ℕ) : 
   pub kind-few : kind ≤ 2
 
 -- row r, and those that are read with it, lie in the tables
-pub record Inside (s : Shape) (kind r : ℕ) (main aux : List ℕ) : Type 0 where
+pub record RowInside (s : Shape) (kind r : ℕ) (main aux : List ℕ) : Type 0 where
   pub main-inside : r * s .row + kind * s .row ≤ length main
   pub aux-inside : r * (3 * s .wide) + kind * (3 * s .wide) ≤ length aux
 
-pub record Rowed (s : Shape) (kind r many : ℕ) (plan targets bases main aux words triples : List ℕ) : Type 0 where
+pub record RowFillable (s : Shape) (kind r many : ℕ) (plan targets bases main aux words triples : List ℕ) : Type 0 where
   pub fits : Fits s kind many plan targets bases
-  pub inside : Inside s kind r main aux
+  pub inside : RowInside s kind r main aux
   pub rooms : Roomy words triples
 
 -- the main words of row r are stored

@@ -23,7 +23,7 @@ ghost use lib.ListN.{length};
 ghost use Rattle.layout.specs.Words.{rowKind};
 ghost use Rattle.filling.specs.Answers.{toldFill};
 ghost use Rattle.filling.specs.Calls.{rowFilled, eachRow, fillCall, fillRowsCall};
-ghost use Rattle.filler.specs.Filling.{shapeOf, Fillable, Tested, Given};
+ghost use Rattle.filler.specs.Filling.{shapeOf, Fillable, TestedRows, GivenTables};
 
 // Fills so many rows, from the last to the first: a next row is filled before it is read.
 fn fill_each(
@@ -78,7 +78,7 @@ fn fill_all(
     main: &mut [u64],
     aux: &mut [u64],
 )
-    requires { ⌜ Tested s filled (now m) (now mains) (now auxs) (now challenges) (now targets) (now bases) (now main) (now aux) ⌝ }
+    requires { ⌜ TestedRows s filled (now m) (now mains) (now auxs) (now challenges) (now targets) (now bases) (now main) (now aux) ⌝ }
     ensures { λ u. ⌜ (now (main .exit), now (aux .exit)) ≡ eachRow (rowKind (now (m .entry))) (rowFilled (s .main) (s .aux) (now (m .entry)) (now (mains .entry)) (now (auxs .entry)) (now (challenges .entry))) (s .row) (3 * s .wide) filled (now (main .entry), now (aux .entry)) ⌝ }
 {
     if s.items == 0 {
@@ -145,7 +145,7 @@ fn fill_lowered(
     aux: &mut [u64],
     challenges: &[u64],
 ) -> Filled
-    requires { ⌜ Given «main_count» «aux_count» rows (now m) (now order) (now rank) (now mains) (now auxs) (now challenges) (now main) (now aux) ⌝ }
+    requires { ⌜ GivenTables «main_count» «aux_count» rows (now m) (now order) (now rank) (now mains) (now auxs) (now challenges) (now main) (now aux) ⌝ }
     ensures { λ r. ⌜ toldFill r (now (main .exit), now (aux .exit)) ≡ fillRowsCall «main_count» «aux_count» (now (m .entry)) (now (mains .entry)) (now (auxs .entry)) (now (challenges .entry)) rows (now (main .entry)) (now (aux .entry)) ⌝ }
 {
     let mut bits = [0u64; 4096];

@@ -13,7 +13,7 @@ ghost use lib.Seq.{sets};
 ghost use Rattle.circuit.specs.Rank.{at};
 ghost use Rattle.filling.specs.Promise.{windowOf};
 ghost use Rattle.filler.specs.Running.{ran};
-ghost use Rattle.filler.specs.Rowing.{wordsFor, tripleFor, triplesFor, Storing, StoringWide, Rowed, RowDone};
+ghost use Rattle.filler.specs.Rowing.{wordsFor, tripleFor, triplesFor, Storing, StoringWide, RowFillable, RowDone};
 
 // Stores the words of the first so many targets.
 fn store_words(part: &mut [u64], targets: &[u64], many: u64, words: &[u64])
@@ -77,7 +77,7 @@ fn work_out(
     words: &mut [u64],
     triples: &mut [u64],
 )
-    requires { ⌜ Rowed s kind r many (now plan) (now targets) (now bases) (now main) (now aux) (now words) (now triples) ⌝ }
+    requires { ⌜ RowFillable s kind r many (now plan) (now targets) (now bases) (now main) (now aux) (now words) (now triples) ⌝ }
     ensures { λ u. ⌜ (now (words .exit), now (triples .exit)) ≡ ran (now (plan .entry)) (windowOf kind (s .row) r (now (main .entry))) (windowOf kind (3 * s .wide) r (now (aux .entry))) many (now (words .entry), now (triples .entry)) ⌝ }
 {
     let row = s.row as usize;
@@ -150,7 +150,7 @@ pub(crate) fn fill_row(
     words: &mut [u64],
     triples: &mut [u64],
 )
-    requires { ⌜ Rowed s kind r many (now plan) (now targets) (now bases) (now main) (now aux) (now words) (now triples) ⌝ }
+    requires { ⌜ RowFillable s kind r many (now plan) (now targets) (now bases) (now main) (now aux) (now words) (now triples) ⌝ }
     ensures { λ u. ⌜ RowDone s kind r many (now (plan .entry)) (now (targets .entry)) (now (bases .entry)) (now (main .entry)) (now (aux .entry)) (now (words .entry)) (now (triples .entry)) (now (main .exit)) (now (aux .exit)) (now (words .exit)) (now (triples .exit)) ⌝ }
 {
     work_out(

@@ -1,6 +1,6 @@
 use native.Mathlib.Omega.{arith}
 use borrow.Author.Needs.{needs}
-use Rattle.filler.proofs.Eachs.{Filling, filling-start, filling-rowed, filling-next, filling-done}
+use Rattle.filler.proofs.Eachs.{Filling, filling-start, filling-row, filling-next, filling-done}
 use Rattle.filler.proofs.calls.fill_each.Statement.{statement}
 use Rattle.filler.proofs.calls.fill_each.Tie as tie
 
@@ -20,7 +20,7 @@ sub-r : tie.Need-sub-r Inv-loop μ-loop
 sub-r c = search needs
 
 fill-row-requires : tie.Need-fill-row-requires Inv-loop μ-loop
-fill-row-requires c κs = filling-rowed _ _ _ _ _ _ _ _ _ _ _ _ _ _ (c .before .before .before .before .before .before .before .before .before .before .before .before .before .before .before .before .before .before .pre) _ _ _ _ _ (c .before .before .before .before .before .loop .inv) (c .before .before .before .before .loop-test .taken)
+fill-row-requires c κs = filling-row _ _ _ _ _ _ _ _ _ _ _ _ _ _ (c .before .before .before .before .before .before .before .before .before .before .before .before .before .before .before .before .before .before .pre) _ _ _ _ _ (c .before .before .before .before .before .loop .inv) (c .before .before .before .before .loop-test .taken)
 
 loop-less : tie.Need-loop-less Inv-loop μ-loop
 loop-less c = let t = c .before .before .before .before .before .before .before .before .before .before .before .before .before .loop-test .taken in omega arith
