@@ -11,7 +11,7 @@ use field::extension;
 use layout::node::{Expression, Op};
 
 // The value of a constant, or that there is none.
-#[derive(Drop)]
+#[derive(Clone, Copy)]
 pub enum Valued {
     Value(Triple),
     Nothing,

@@ -11,7 +11,7 @@ use classes::find::{Place, find, join};
 use layout::node::{Expression, Op};
 
 // The id of a node that was found or made, or that there is no place for it.
-#[derive(Drop)]
+#[derive(Clone, Copy)]
 pub enum Made {
     At(u64),
     Full,

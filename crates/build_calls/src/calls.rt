@@ -24,7 +24,7 @@ use layout::refusal::{BAD_ID, BAD_INDEX, BAD_ROW, BAD_WORD, EMPTY, FULL, NOT_CIR
 use paths::ids::bad_id;
 
 // What is asked of nodes, once the tests of its own have passed. A sum is asked by a list of ids.
-#[derive(Drop)]
+#[derive(Clone, Copy)]
 pub enum Request {
     Operation(Op, u64, u64),
     Negate(u64),

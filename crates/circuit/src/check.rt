@@ -159,7 +159,7 @@ fn any_bad(m: &[u64]) -> bool
 }
 
 // What the walk does at a node.
-#[derive(Drop)]
+#[derive(Clone, Copy)]
 pub enum Step {
     Stay,
     Two(u64, u64),

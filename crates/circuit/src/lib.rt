@@ -1,5 +1,7 @@
 // A circuit in lent words: the words of a place (place), the test for a constant (constants), the check for NOT_CIRCUIT with its rank (check) and the
 // public calls (calls). What the words say stands in the crate layout.
+#![tactic(auto)]
+
 pub mod calls;
 pub mod check;
 pub mod constants;

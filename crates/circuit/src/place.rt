@@ -57,7 +57,7 @@ pub fn node_at(m: &[u64], i: u64) -> Node
 }
 
 // An expression's kind and three words.
-#[derive(Drop)]
+#[derive(Clone, Copy)]
 pub struct FourWords {
     pub kind: u64,
     pub first: u64,

@@ -1,5 +1,6 @@
 // Runs hand-made memories, damaged in one way each and at the edge of each bound, and compares the answers with those that document 01 asks for.
 // Says how many were compared, and the number of each that differs.
+#![tactic(auto)]
 ghost use Rattle.std.specs.Prelude.{◌<◌, ◌≤◌};
 
 use circuit::calls::{free, read, start, used};
@@ -12,7 +13,7 @@ use layout::refusal::{BAD_ID, NOT_CIRCUIT};
 const LAST: u64 = 18446744069414584320;
 
 // How many answers were compared, and how many differed.
-#[derive(Drop)]
+#[derive(Clone, Copy)]
 struct Tally {
     compared: u64,
     differed: u64,

@@ -42,7 +42,7 @@ pub fn class_tables(
 }
 
 // A node that was looked for.
-#[derive(Drop)]
+#[derive(Clone, Copy)]
 pub enum Place {
     At(u64),
     Nowhere,

@@ -1,4 +1,5 @@
 // Structural classes: each node's least id of equal structure.
+#![tactic(auto)]
 pub mod calls;
 pub mod find;
 pub mod least;
@@ -6,7 +7,7 @@ pub mod numbers;
 pub mod table;
 
 // Whether two nodes are equal by structure, or why that was not answered.
-#[derive(Drop)]
+#[derive(Clone, Copy)]
 pub enum Equal {
     Answer(bool),
     Refused(u64),

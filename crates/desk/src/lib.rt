@@ -1,7 +1,8 @@
 // The program `fill`, as definitions: the frame program's lines and two more. What answers a line is the crate desk_line.
+#![tactic(auto)]
 
 // The latest accepted lower frame: whether there is one, its column counts, and how many columns of each kind it added.
-#[derive(Drop)]
+#[derive(Clone, Copy)]
 pub struct Latest {
     pub lowered: bool,
     pub main_count: u64,

@@ -91,7 +91,7 @@ fn latest_after(latest: Latest, request: Request, reply: Reply) -> Latest
 }
 
 // How long the answer is, and the latest lower frame then.
-#[derive(Drop)]
+#[derive(Clone, Copy)]
 pub struct Framed {
     pub written: usize,
     pub latest: Latest,
@@ -124,7 +124,7 @@ fn frame_line(
 }
 
 // How long the answer is, and how many words of challenges are kept then.
-#[derive(Drop)]
+#[derive(Clone, Copy)]
 pub struct Kept {
     pub written: usize,
     pub words: usize,
@@ -166,7 +166,7 @@ fn row_line(
 }
 
 // How long the answer is, the latest lower frame then, and how many words of challenges are kept then.
-#[derive(Drop)]
+#[derive(Clone, Copy)]
 pub struct Told {
     pub written: usize,
     pub latest: Latest,

@@ -24,7 +24,7 @@ pub const ROW_AUX: usize = 6144;
 
 // What is kept beside the lent memory: how many characters of a line that has not ended, the place behind what is written, the latest lower frame,
 // and how many words of challenges are given.
-#[derive(Drop)]
+#[derive(Clone, Copy)]
 pub struct Step {
     pub kept: usize,
     pub at: usize,
@@ -99,7 +99,7 @@ pub fn answer_line(
 }
 
 // How many bytes of a part were taken, and what is kept and written then.
-#[derive(Drop)]
+#[derive(Clone, Copy)]
 pub struct Fed {
     pub taken: usize,
     pub step: Step,

@@ -45,7 +45,7 @@ fn is_challenges(line: &[u8], n: usize) -> bool
 }
 
 // How many words are kept then, and what is answered.
-#[derive(Drop)]
+#[derive(Clone, Copy)]
 pub struct Given {
     pub words: usize,
     pub number: u64,

@@ -1,5 +1,6 @@
 // Document 01's edges that are run: 4,096 nodes fit and one more is FULL, columns and challenges up to 65,535, a target of 2, a column count that is
 // just enough, and the bounds of degrees and of path counts. Says what each call answers: the id, the counts, the degree, or the number of the refusal.
+#![tactic(auto)]
 use build_calls::calls::{base_constant, challenge, input, negate, operation, subtract, sum};
 use building::Answer;
 use circuit::calls::{free, read, start, used};

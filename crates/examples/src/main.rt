@@ -1,5 +1,6 @@
 // Runs the files of data/ through the frame program's own function, or those of rows through the program `fill`'s, each from a fresh state, and compares
 // the answers with the files beside them. Says how many inputs were compared and how many differ.
+#![tactic(auto)]
 ghost use Rattle.std.specs.Prelude.{◌+◌, ◌≤◌, ◌≡◌, length};
 ghost use Rattle.kept.specs.Keeps.{Keeps};
 

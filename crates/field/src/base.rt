@@ -14,7 +14,7 @@ pub const P: u64 = 18446744069414584321;
 const MISSED: u64 = 4294967295;
 
 // A number below 2^130, in three words: top·2^128 + high·2^64 + low.
-#[derive(Drop)]
+#[derive(Clone, Copy)]
 pub(crate) struct Wide {
     pub(crate) top: u64,
     pub(crate) high: u64,
@@ -22,7 +22,7 @@ pub(crate) struct Wide {
 }
 
 // A word and the carry out of it.
-#[derive(Drop)]
+#[derive(Clone, Copy)]
 struct Carried {
     word: u64,
     carry: u64,

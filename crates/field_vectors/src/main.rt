@@ -1,5 +1,6 @@
 // Compares the two fields with answers that were worked out elsewhere: records from standard input, one a line, as
 // bench/field/vectors.py writes them. Prints how many were compared and how many disagree.
+#![tactic(auto)]
 ghost use Rattle.std.specs.Prelude.{◌+◌, ◌<◌, ◌≤◌, length};
 
 use arithmetic::{Triple, Unlifted};
@@ -12,7 +13,7 @@ const RECORD: usize = 146;
 // A hundred records.
 const PART: usize = 14600;
 
-#[derive(Drop)]
+#[derive(Clone, Copy)]
 struct Tally {
     compared: u32,
     disagree: u32,

@@ -1,5 +1,6 @@
 // The program `fill` (docs/FILL.md): the frame program's lines, and rows whose new columns it fills, one a line. Answers as soon as lines have been read;
 // its memory is constant.
+#![tactic(auto)]
 ghost use Rattle.std.specs.Prelude.{◌≤◌, length, take};
 ghost use Rattle.framing.specs.States.{lent};
 ghost use Rattle.stream.specs.Stream.{stream, Roomy, Poured};

@@ -16,7 +16,7 @@ use layout::node::{Expression, Op, Position};
 const MINUS_ONE: u64 = 18446744069414584320;
 
 // What a listed node gives its column, if it has the form.
-#[derive(Drop)]
+#[derive(Clone, Copy)]
 pub enum Form {
     Nothing,
     Of(u64),

@@ -11,7 +11,7 @@ use circuit::place::expression_at;
 use layout::node::{Expression, Op, Position};
 
 // The old main columns, the new ones, and all that a row has; the old auxiliary columns, and all that a row has; the new columns of both lists.
-#[derive(Drop)]
+#[derive(Clone, Copy)]
 pub struct Shape {
     pub main: u64,
     pub fresh: u64,
@@ -23,7 +23,7 @@ pub struct Shape {
 
 // Where a node's value comes from: it is the same in every row; a cell of the main row; one of the auxiliary row; a new column's expression, by its
 // place in the two lists; or two operands.
-#[derive(Drop)]
+#[derive(Clone, Copy)]
 pub enum Source {
     Fixed,
     Word(u64),

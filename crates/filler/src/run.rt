@@ -7,7 +7,7 @@ use field::{base, extension};
 use read::value::{entry_at, keep};
 
 // What is worked out, the entry that it goes to, and two operands: entries, or a column's place in the row.
-#[derive(Drop)]
+#[derive(Clone, Copy)]
 pub struct Instruction {
     pub op: u64,
     pub to: u64,

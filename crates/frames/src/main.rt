@@ -1,4 +1,5 @@
 // Document 01's frame program: answers the frames on standard input, a line for each line, as soon as they have been read. Its memory is constant.
+#![tactic(auto)]
 ghost use Rattle.std.specs.Prelude.{◌≤◌, length, take};
 ghost use Rattle.framing.specs.States.{lent};
 ghost use Rattle.kept.specs.Keeps.{Keeps};

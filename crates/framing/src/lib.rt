@@ -1,9 +1,10 @@
 // Document 01, "The frame program", as definitions. What answers a line is the crate frame.
+#![tactic(auto)]
 use arithmetic::Triple;
 use layout::node::Op;
 
 // A frame, its numbers read. A line that is none asks for nothing.
-#[derive(Drop)]
+#[derive(Clone, Copy)]
 pub enum Request {
     Start(u64),
     Input(u64, u64),
@@ -19,11 +20,11 @@ pub enum Request {
 }
 
 // How many bytes a frame has, its opcode included, and what it asks for if it has so many.
-#[derive(Drop)]
+#[derive(Clone, Copy)]
 pub struct Form(pub usize, pub Request);
 
 // A number alone; the number, and if that is 0, an id; the number, and if that is 0, how many of each list.
-#[derive(Drop)]
+#[derive(Clone, Copy)]
 pub enum Reply {
     Bare(u64),
     Id(u64, u64),

@@ -11,7 +11,7 @@ use crate::substitute::{Constraint, substitute};
 use lowering::Lowered;
 
 // How many constraints each list has so far, and whether there may be more.
-#[derive(Drop)]
+#[derive(Clone, Copy)]
 pub struct Progress {
     pub main: u64,
     pub aux: u64,

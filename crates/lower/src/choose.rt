@@ -5,7 +5,7 @@ ghost use Rattle.lowering.specs.Lowering.{better};
 ghost use Rattle.lower.specs.Tables.{above_in, is_high_in, high_in, Listed, is_candidate_in, best_in, candidate_of, improved};
 
 // A candidate: its degree is one higher, as in the table.
-#[derive(Drop)]
+#[derive(Clone, Copy)]
 pub struct Choice {
     pub id: u64,
     pub degree: u64,

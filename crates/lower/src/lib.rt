@@ -1,4 +1,5 @@
 // Lowering: document 01, "Lowering". Its definitions are the crate lowering's.
+#![tactic(auto)]
 pub mod calls;
 pub mod choose;
 pub mod next;

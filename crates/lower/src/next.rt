@@ -16,7 +16,7 @@ use read::base_test;
 use read::degree::degrees_along;
 
 // The node to substitute next, and its base test; or that no root's degree exceeds the target.
-#[derive(Drop)]
+#[derive(Clone, Copy)]
 pub enum Next {
     Node(u64, bool),
     Done,

@@ -12,7 +12,7 @@ use circuit::place::make;
 use layout::node::{Expression, Position};
 
 // The constraint of a substitution, and whether it goes to the main list.
-#[derive(Drop)]
+#[derive(Clone, Copy)]
 pub struct Constraint {
     pub id: u64,
     pub main: bool,

@@ -10,7 +10,7 @@ use layout::node::{Expression, Op};
 pub const UNKNOWN: u64 = 18446744073709551615;
 
 // What a recursion does at a node: the entry is the answer, or the answer comes from those of the two operands.
-#[derive(Drop)]
+#[derive(Clone, Copy)]
 pub enum Step {
     Stay,
     Two(Op, u64, u64),

@@ -11,7 +11,7 @@ use circuit::place::expression_at;
 use layout::node::{Expression, Position};
 
 // How many columns one row has: a main table is one word a column, an auxiliary table three; and how many challenges there are.
-#[derive(Drop)]
+#[derive(Clone, Copy)]
 pub struct Columns {
     pub main: u64,
     pub aux: u64,

@@ -1,4 +1,5 @@
 // Fills rows of the frozen circuits after each of their lowerings, and evaluates on them. Says what was tried, and how much isn't as it has to be.
+#![tactic(auto)]
 mod calls;
 mod text;
 mod trial;

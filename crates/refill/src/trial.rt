@@ -21,7 +21,7 @@ const AUX: usize = 768;
 const CHALLENGES: usize = 192;
 
 // The number of rows that the circuit reads, the old columns and the new ones.
-#[derive(Drop)]
+#[derive(Clone, Copy)]
 pub(crate) struct Shape {
     pub(crate) kind: u64,
     pub(crate) main: u64,

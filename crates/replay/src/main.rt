@@ -1,5 +1,6 @@
 // Replays the answers of the Rust, which were frozen into files: each call again, and each reading of each dump, all compared. Says for each file
 // what was replayed, how many numbers were compared, and in how many records one differs.
+#![tactic(auto)]
 mod calls;
 mod cells;
 mod dumps;

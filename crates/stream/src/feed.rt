@@ -59,14 +59,14 @@ pub fn answer_line(
 }
 
 // How many characters are kept of a line that has not ended, and the place behind what is written.
-#[derive(Drop)]
+#[derive(Clone, Copy)]
 pub struct Step {
     pub kept: usize,
     pub at: usize,
 }
 
 // How many bytes of a part were taken, and what is kept and written then.
-#[derive(Drop)]
+#[derive(Clone, Copy)]
 pub struct Fed {
     pub taken: usize,
     pub step: Step,

@@ -17,7 +17,7 @@ fn keep(line: &mut [u8], kept: usize, b: u8) -> usize
 }
 
 // How many bytes of a part were taken, how many characters are kept, and whether the line ended.
-#[derive(Drop)]
+#[derive(Clone, Copy)]
 pub struct Gathered {
     pub taken: usize,
     pub kept: usize,
