@@ -1,5 +1,6 @@
 // Structural classes: each node's least id of equal structure.
 #![tactic(auto)]
+
 pub mod calls;
 pub mod find;
 pub mod least;

@@ -1,0 +1,8 @@
+use borrow.Author.Rules.{rules}
+use native.Mathlib.Omega.{arith}
+use Rattle.classes.specs.Table.{spread}
+use Rattle.classes.proofs.table.bucket.Goals as goal
+
+pub returns : goal.returns
+unfolding spread
+returns c = omega arith
