@@ -38,7 +38,7 @@ returns-then-list-found c = counts_no_room _ _ _ (accepts _ _ c.check.ensures.to
 pub copy_words-requires : goal.copy_words-requires
 copy_words-requires c = let t = valid_top _ (accepts _ _ c.check.ensures.told (ap not c.if-not-check.false)) in
     let g = gathered_few _ _ _ _ _ c.gather-found.ensures in
-    let r : 4096 ≤ length c.gather-found.new.1.1.0 = search rules in
+    let r : 4096 ≤ length c.gather-found.new.words = search rules in
     (omega arith, c.if-list-found.false)
 
 pub returns : goal.returns

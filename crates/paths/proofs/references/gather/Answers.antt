@@ -34,7 +34,7 @@ overflow_add-j c = let t = valid_top _ c.requires.valid in omega arith
 
 pub loop-j-preserved : goal.loop-j-preserved
 loop-j-preserved c = let g = c.loop-j.invariant.1 in
-    (omega arith, elim c.if-counts-node-gt0.branch [ then-counts-node-gt0 w ↦ rw (w.6, w.7) (gathered_next _ _ _ _ _ _ g _ _ _ w.0.taken (ap (λ (x : Node). x.references) w.2.ensures) w.3.kept.0 w.3.ensures) | else-counts-node-gt0 w ↦ rw (w.1, w.2) (gathered_same _ _ _ _ _ _ g w.0.left) ])
+    (omega arith, elim c.if-counts-node-gt0.branch [ then-counts-node-gt0 w ↦ rw (w.words-is, w.found-is) (gathered_next _ _ _ _ _ _ g _ _ _ w.if-counts-node-gt0.true (ap (λ (x : Node). x.references) w.node_at.ensures) w.insert_word-found.auto.words w.insert_word-found.ensures) | else-counts-node-gt0 w ↦ rw (w.words-is, w.found-is) (gathered_same _ _ _ _ _ _ g w.if-counts-node-gt0.false) ])
 
 pub shape_of-words : goal.shape_of-words
 shape_of-words c = c.loop-j.invariant.1.long

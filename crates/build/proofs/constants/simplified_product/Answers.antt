@@ -1,0 +1,24 @@
+use mathlib.Core.Path.{sym, ◌∙◌}
+use Rattle.build.specs.Inner.{simplified}
+use borrow.Author.Rules.{rules}
+use Rattle.build.proofs.constants.simplified_product.Goals as goal
+
+pub returns-then-is_constant : goal.returns-then-is_constant
+unfolding simplified
+returns-then-is_constant c = rw (sym c.is_constant.ensures ∙ c.if-is_constant.true)
+
+pub returns-then-is_constant-2 : goal.returns-then-is_constant-2
+unfolding simplified
+returns-then-is_constant-2 c = rw (sym c.is_constant.ensures ∙ c.if-is_constant.false, sym c.is_constant-2.ensures ∙ c.if-is_constant-2.true)
+
+pub returns-then-is_constant-3 : goal.returns-then-is_constant-3
+unfolding simplified
+returns-then-is_constant-3 c = rw (sym c.is_constant.ensures ∙ c.if-is_constant.false, sym c.is_constant-2.ensures ∙ c.if-is_constant-2.false, sym c.is_constant-3.ensures ∙ c.if-is_constant-3.true)
+
+pub returns-then-is_constant-4 : goal.returns-then-is_constant-4
+unfolding simplified
+returns-then-is_constant-4 c = rw (sym c.is_constant.ensures ∙ c.if-is_constant.false, sym c.is_constant-2.ensures ∙ c.if-is_constant-2.false, sym c.is_constant-3.ensures ∙ c.if-is_constant-3.false, sym c.is_constant-4.ensures ∙ c.if-is_constant-4.true)
+
+pub returns : goal.returns
+unfolding simplified
+returns c = rw (sym c.is_constant.ensures ∙ c.if-is_constant.false, sym c.is_constant-2.ensures ∙ c.if-is_constant-2.false, sym c.is_constant-3.ensures ∙ c.if-is_constant-3.false, sym c.is_constant-4.ensures ∙ c.if-is_constant-4.false)

@@ -1,0 +1,7 @@
+use Rattle.reading.specs.Calls.{is_one_call}
+use borrow.Author.Rules.{rules}
+use Rattle.read.proofs.constants.is_one.Goals as goal
+
+pub returns : goal.returns
+unfolding is_one_call
+returns c = c.constant_test.ensures

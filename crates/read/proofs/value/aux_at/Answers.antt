@@ -1,0 +1,14 @@
+use Prim.Native.Nat.{◌+◌, ◌*◌}
+use Rattle.reading.specs.Calls.{triple_at}
+use lib.ListN.{get_or-eq_default}
+use native.Mathlib.Omega.{arith}
+use borrow.Author.Rules.{rules}
+use Rattle.read.proofs.value.aux_at.Goals as goal
+
+pub returns-then-row-k : goal.returns-then-row-k
+unfolding triple_at
+returns-then-row-k c = rw (c.lift.ensures, get_or-eq_default c.args.row.now 0 {n = 3 * c.args.c} (omega arith), get_or-eq_default c.args.row.now 0 {n = 3 * c.args.c + 1} (omega arith), get_or-eq_default c.args.row.now 0 {n = 3 * c.args.c + 2} (omega arith))
+
+pub returns : goal.returns
+unfolding triple_at
+returns c = rw (c.word_at.ensures, c.word_at-2.ensures, c.word_at-3.ensures)

@@ -1,0 +1,7 @@
+use Rattle.arithmetic.specs.Extension.{lift}
+use mathlib.Core.Path.{ap, ◌∙◌}
+use borrow.Author.Rules.{rules}
+use Rattle.read.proofs.value.main_at.Goals as goal
+
+pub returns : goal.returns
+returns c = c.lift.ensures ∙ ap lift c.word_at.ensures
