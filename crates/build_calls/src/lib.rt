@@ -1,4 +1,5 @@
 // The public calls of building: document 01, "Building".
 #![tactic(auto)]
+
 pub mod calls;
 pub mod leaves;

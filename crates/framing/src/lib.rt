@@ -1,5 +1,6 @@
 // Document 01, "The frame program", as definitions. What answers a line is the crate frame.
 #![tactic(auto)]
+
 use arithmetic::Triple;
 use layout::node::Op;
 

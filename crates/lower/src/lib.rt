@@ -1,5 +1,6 @@
 // Lowering: document 01, "Lowering". Its definitions are the crate lowering's.
 #![tactic(auto)]
+
 pub mod calls;
 pub mod choose;
 pub mod next;

@@ -1,0 +1,22 @@
+use Rattle.std.proofs.Common.{ap, not}
+use mathlib.Core.Path.{refl, sym, ◌∙◌}
+use Rattle.layout.proofs.Refusals.{refuses, refusal_here, refusal_next}
+use Rattle.building.specs.Calls.{base_call}
+use Rattle.build_calls.proofs.Endings.{no_circuit, refuses_by, only_full, checked}
+use borrow.Author.Rules.{rules}
+use Rattle.build_calls.proofs.calls.base_constant.Goals as goal
+
+pub returns-then-not-check : goal.returns-then-not-check
+unfolding base_call
+returns-then-not-check c = sym (no_circuit _ _ _ (refuses _ _ c.check.ensures.told (ap not c.if-not-check.true)))
+
+pub returns-then-bad_word : goal.returns-then-bad_word
+unfolding base_call
+returns-then-bad_word c = sym (refuses_by _ _ _ 4 (checked _ _ _ _ c.check.ensures (ap not c.if-not-check.false)) (refusal_here 5 _ _ (sym c.bad_word.ensures ∙ c.if-bad_word.true)))
+
+pub leaf-requires : goal.leaf-requires
+leaf-requires c = record { circuit = checked _ _ _ _ c.check.ensures (ap not c.if-not-check.false); leaf = refl }
+
+pub returns : goal.returns
+unfolding base_call
+returns c = c.leaf.ensures ∙ sym (only_full _ _ _ (checked _ _ _ _ c.check.ensures (ap not c.if-not-check.false)) (refusal_next 5 _ _ (sym c.bad_word.ensures ∙ c.if-bad_word.false)))

@@ -1,0 +1,7 @@
+use Rattle.building.specs.Calls.{operation_call}
+use borrow.Author.Rules.{rules}
+use Rattle.build_calls.proofs.calls.operation.Goals as goal
+
+pub returns : goal.returns
+unfolding operation_call
+returns c = c.on_nodes.ensures

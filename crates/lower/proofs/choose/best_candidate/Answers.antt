@@ -1,0 +1,19 @@
+use borrow.Author.Rules.{rules}
+use Prim.Native.Nat.{◌≤◌, ◌-◌}
+use mathlib.Core.Path.{◌≡◌, ap, ◌∙◌}
+use native.Mathlib.Omega.{arith}
+use Rattle.layout.specs.Lists.{each, up_to}
+use Rattle.lowering.specs.Lowering.{Candidate}
+use Rattle.lower.specs.Tables.{candidate_of, improved}
+use Rattle.lower.proofs.Renames.{each_start, each_next}
+use Rattle.lower.proofs.Selects.{nothing, best_last}
+use Rattle.lower.proofs.choose.best_candidate.Goals as goal
+
+pub loop-i-init : goal.loop-i-init
+loop-i-init c = (omega arith, each_start (improved c.args.degrees.now c.args.occurrences.now c.args.target) nothing)
+
+pub loop-i-preserved : goal.loop-i-preserved
+loop-i-preserved c = (omega arith, each_next (improved c.args.degrees.now c.args.occurrences.now c.args.target) nothing _ _ _ c.loop-i.invariant.1 c.improve-best.ensures)
+
+pub returns : goal.returns
+returns c = let e : c.loop-i.i ≡ c.args.n = omega arith in ap (λ (x : Candidate). x.id) c.loop-i.invariant.1 ∙ rw e (best_last c.args.degrees.now c.args.occurrences.now c.args.target _)

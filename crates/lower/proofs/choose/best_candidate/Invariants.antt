@@ -1,0 +1,16 @@
+use borrow.Author.Rules.{rules}
+use Prim.Native.Nat.{◌≤◌, ◌-◌}
+use mathlib.Core.Path.{◌≡◌, ap, ◌∙◌}
+use native.Mathlib.Omega.{arith}
+use Rattle.layout.specs.Lists.{each, up_to}
+use Rattle.lowering.specs.Lowering.{Candidate}
+use Rattle.lower.specs.Tables.{candidate_of, improved}
+use Rattle.lower.proofs.Renames.{each_start, each_next}
+use Rattle.lower.proofs.Selects.{nothing, best_last}
+use Rattle.lower.proofs.choose.best_candidate.Given as goal
+
+abbrev pub invariant-loop-i : goal.invariant-loop-i
+invariant-loop-i l = (l.i ≤ l.n) × (candidate_of l.best ≡ each (improved l.degrees l.occurrences l.target) nothing (up_to l.i))
+
+abbrev pub decreases-loop-i : goal.decreases-loop-i
+decreases-loop-i l = l.n - l.i
