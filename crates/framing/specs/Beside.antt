@@ -56,7 +56,7 @@ beside =
     -- lowering again what names a loose node: LOOSE
     ∷ (program "0001\n01000000\n0600000000\n0600010001\n090002\n0a000200010000\n090001\n0600010001\n090007\n0a000200020000\n", bytes "00\n000000\n000001\n000002\n00\n00000100000006\n00\n000007\n00\n0a\n")
     -- FRAME: before 00, a second 00, an unknown opcode, too short, too long, upper case, an odd length, a blank line, a row byte over 03
-    ∷ (program "01000000\n0003\n0001\n0001\n0b00\n0100\n0100000000\n0_a000200010000\n010\n\n01040000\n0100000_a\n01020000\n03ffffffff00000001\n0500000000\n", bytes "10\n10\n00\n10\n10\n10\n10\n10\n10\n10\n10\n10\n03\n05\n02\n")
+    ∷ (program "01000000\n0003\n0001\n0001\n0b00\n0100\n0100000000\n0A000200010000\n010\n\n01040000\n0100000A\n01020000\n03ffffffff00000001\n0500000000\n", bytes "10\n10\n00\n10\n10\n10\n10\n10\n10\n10\n10\n10\n03\n05\n02\n")
     ∷ []
 
 pub others : T (agree beside)

@@ -37,7 +37,7 @@ x²a² = lent (sample 1 9 (Input (Main 0) ∷ Input (Aux 0) ∷ Operation Multip
 unfoldable pub table : List (List ℕ × List ℕ)
 table =
     -- lower-case hexadecimal, and what stands beside it among the characters
-    (map (λ c. bit (is_digit c)) (bytes "/09:`afg_af"), 0 ∷ 1 ∷ 1 ∷ 0 ∷ 0 ∷ 1 ∷ 1 ∷ 0 ∷ 0 ∷ 0 ∷ [])
+    (map (λ c. bit (is_digit c)) (bytes "/09:`afgAF"), 0 ∷ 1 ∷ 1 ∷ 0 ∷ 0 ∷ 1 ∷ 1 ∷ 0 ∷ 0 ∷ 0 ∷ [])
     ∷ (map digit (bytes "09af"), 0 ∷ 9 ∷ 10 ∷ 15 ∷ [])
     ∷ (hexadecimal (0 ∷ 15 ∷ 16 ∷ 171 ∷ 255 ∷ []), bytes "000f10abff")
     -- numbers are big-endian

@@ -1,0 +1,54 @@
+use Rattle.fillable.proofs.Reaches.{reach_two, reach_leaf, columned}
+use Rattle.fillable.specs.Reaching.{reach_entry, reach_join}
+use Rattle.read.proofs.Along.{operands_below, answer_joined}
+use Rattle.read.specs.Tables.{operands_of}
+use Rattle.paths.proofs.Counts.{valid_top}
+use Rattle.layout.proofs.Valid.{valid_fits}
+use mathlib.Core.Path.{sym, ap, ◌∙◌}
+use native.Mathlib.Omega.{arith}
+use borrow.Author.Rules.{rules}
+use Rattle.fillable.proofs.reach.reach_at.Goals as goal
+
+pub expression_at-e-requires : goal.expression_at-e-requires
+expression_at-e-requires c = valid_fits _ c.requires.valid _ c.requires.here
+
+pub leaf_reach-requires : goal.leaf_reach-requires
+leaf_reach-requires c = let v = c.requires in rw c.expression_at-e.ensures (columned _ v.valid _ v.here)
+
+pub offset_bounds-table-left : goal.offset_bounds-table-left
+offset_bounds-table-left c = let v = c.requires in
+    let e = sym (c.operands_of-s.ensures ∙ ap operands_of c.expression_at-e.ensures) ∙ c.in-Two.is in
+    let t = valid_top _ v.valid in
+    let b = (operands_below v e).0 in
+    omega arith
+
+pub bounds-table-left : goal.bounds-table-left
+bounds-table-left c = let v = c.requires in
+    let e = sym (c.operands_of-s.ensures ∙ ap operands_of c.expression_at-e.ensures) ∙ c.in-Two.is in
+    let r = v.room in
+    let b = (operands_below v e).0 in
+    omega arith
+
+pub offset_bounds-table-right : goal.offset_bounds-table-right
+offset_bounds-table-right c = let v = c.requires in
+    let e = sym (c.operands_of-s.ensures ∙ ap operands_of c.expression_at-e.ensures) ∙ c.in-Two.is in
+    let t = valid_top _ v.valid in
+    let b = (operands_below v e).1 in
+    omega arith
+
+pub bounds-table-right : goal.bounds-table-right
+bounds-table-right c = let v = c.requires in
+    let e = sym (c.operands_of-s.ensures ∙ ap operands_of c.expression_at-e.ensures) ∙ c.in-Two.is in
+    let r = v.room in
+    let b = (operands_below v e).1 in
+    omega arith
+
+pub returns-in-Stay : goal.returns-in-Stay
+returns-in-Stay c = let v = c.requires in
+    let e = sym (c.operands_of-s.ensures ∙ ap operands_of c.expression_at-e.ensures) ∙ c.in-Stay.is in
+    c.leaf_reach.ensures ∙ ap (reach_entry c.args.main) c.expression_at-e.ensures ∙ reach_leaf _ _ v.valid _ v.here e
+
+pub returns-in-Two : goal.returns-in-Two
+returns-in-Two c = let v = c.requires in
+    let e = sym (c.operands_of-s.ensures ∙ ap operands_of c.expression_at-e.ensures) ∙ c.in-Two.is in
+    c.larger.ensures ∙ answer_joined v e reach_join (reach_two _ _ v.valid)

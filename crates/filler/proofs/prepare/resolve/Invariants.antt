@@ -1,0 +1,10 @@
+use Prim.Native.Nat.{◌-◌}
+use native.Mathlib.Omega.{arith}
+use Rattle.filler.proofs.Fixes.{Resolving, resolving_start, resolving_next, resolving_done}
+use Rattle.filler.proofs.prepare.resolve.Given as goal
+
+abbrev pub invariant-loop-k : goal.invariant-loop-k
+invariant-loop-k l = Resolving l.initial.targets l.alias l.targets l.items l.k
+
+abbrev pub decreases-loop-k : goal.decreases-loop-k
+decreases-loop-k l = l.items - l.k

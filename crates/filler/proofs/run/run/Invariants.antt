@@ -1,0 +1,10 @@
+use Prim.Native.Nat.{◌-◌}
+use native.Mathlib.Omega.{arith}
+use Rattle.filler.proofs.Runs.{Running, running_start, running_lengths, running_done, running_doable, running_next}
+use Rattle.filler.proofs.run.run.Given as goal
+
+abbrev pub invariant-loop-q : goal.invariant-loop-q
+invariant-loop-q l = Running l.plan l.many l.main l.aux l.initial.words l.initial.triples l.words l.triples l.q
+
+abbrev pub decreases-loop-q : goal.decreases-loop-q
+decreases-loop-q l = l.many - l.q

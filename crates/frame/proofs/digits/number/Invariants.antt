@@ -1,0 +1,13 @@
+use Prim.Native.Nat.{ℕ, ◌-◌, ◌≤◌}
+use mathlib.Core.Path.{◌≡◌, refl, sym, ap, ◌∙◌}
+use native.Mathlib.Omega.{arith}
+use borrow.Author.Rules.{rules}
+use Rattle.framing.specs.Digits.{bytes_of, number_at}
+use Rattle.frame.proofs.Hexadecimal.{byte_small, number-none, number_small, number-again, number_done}
+use Rattle.frame.proofs.digits.number.Given as goal
+
+abbrev pub invariant-loop-k : goal.invariant-loop-k
+invariant-loop-k l = (l.k ≤ l.size) × (l.n ≡ number_at l.k l.after (bytes_of l.line))
+
+abbrev pub decreases-loop-k : goal.decreases-loop-k
+decreases-loop-k l = l.size - l.k

@@ -1,0 +1,6 @@
+use Rattle.frame.proofs.Writing.{put_one, put_out}
+use borrow.Author.Rules.{rules}
+use Rattle.frame.proofs.reply.put.Goals as goal
+
+pub returns-then-answer-at : goal.returns-then-answer-at
+returns-then-answer-at c = put_out _ _ _ c.if-answer-at.true

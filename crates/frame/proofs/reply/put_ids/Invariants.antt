@@ -1,0 +1,13 @@
+use Prim.Native.Nat.{◌-◌, ◌≤◌}
+use mathlib.Core.Path.{◌≡◌, refl, sym, ap, ◌∙◌}
+use native.Mathlib.Omega.{arith}
+use lib.ListN.{length, take}
+use Rattle.frame.specs.Puts.{Put}
+use Rattle.frame.proofs.Writing.{ids_text, ids_none, ids_behind, ids_more, ids_counted, ids_all}
+use Rattle.frame.proofs.reply.put_ids.Given as goal
+
+abbrev pub invariant-loop-k : goal.invariant-loop-k
+invariant-loop-k l = ((l.k ≤ length l.ids) × (l.k ≤ l.n)) × ((length l.answer ≡ length l.initial.answer) × Put l.initial.answer l.at (ids_text (take l.k l.ids)) l.answer l.next)
+
+abbrev pub decreases-loop-k : goal.decreases-loop-k
+decreases-loop-k l = length l.ids - l.k
