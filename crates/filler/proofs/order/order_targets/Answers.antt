@@ -11,7 +11,7 @@ pub list_ranked-requires : goal.list_ranked-requires
 list_ranked-requires c = let t = header_top _ (valid_header _ c.requires.targeted.valid) in
     let o = c.requires.order_room in
     let r = c.requires.rank_room in
-    let q = c.rank_targets-done.auto.m in
+    let q = c.rank_targets-done.auto.rank in
     (reached_apart _ _ _ _ _ _ _ c.rank_targets-done.ensures, (omega arith, omega arith))
 
 pub returns : goal.returns
