@@ -1,6 +1,7 @@
 // The fields' products as a static library, for programs in other languages. A call into it cannot be inlined there, so chains
 // are here too: they make n products in one call.
 #![tactic(auto)]
+
 ghost use Rattle.std.specs.Prelude.{◌≡◌};
 ghost use Rattle.arithmetic.specs.Base.{multiply};
 ghost use Rattle.arithmetic.specs.Extension.{triple};

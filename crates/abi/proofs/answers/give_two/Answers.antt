@@ -1,0 +1,7 @@
+use Rattle.abi.proofs.Passing.{put_two}
+use mathlib.Core.Path.{refl}
+use borrow.Author.Rules.{rules}
+use Rattle.abi.proofs.answers.give_two.Goals as goal
+
+pub returns : goal.returns
+returns c = (refl, put_two c.args.out.now c.args.v c.args.w _ _ c.put.ensures c.put-2.ensures)

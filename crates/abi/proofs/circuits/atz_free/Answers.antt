@@ -1,0 +1,6 @@
+use Rattle.abi.proofs.Passing.{handed_on}
+use borrow.Author.Rules.{rules}
+use Rattle.abi.proofs.circuits.atz_free.Goals as goal
+
+pub returns : goal.returns
+returns c = handed_on c.free.ensures c.counted.ensures

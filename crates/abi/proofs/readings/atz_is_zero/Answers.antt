@@ -1,0 +1,6 @@
+use Rattle.abi.proofs.Passing.{handed_on}
+use borrow.Author.Rules.{rules}
+use Rattle.abi.proofs.readings.atz_is_zero.Goals as goal
+
+pub returns : goal.returns
+returns c = handed_on c.is_zero.ensures c.test.ensures

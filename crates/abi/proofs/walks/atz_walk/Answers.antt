@@ -1,0 +1,6 @@
+use Rattle.abi.proofs.Passing.{handed_on}
+use borrow.Author.Rules.{rules}
+use Rattle.abi.proofs.walks.atz_walk.Goals as goal
+
+pub returns : goal.returns
+returns c = handed_on c.walk.ensures (c.count.ensures.1 _)

@@ -1,0 +1,17 @@
+-- `field_abi::field_triple_chain` meets its contract: what is left of the chain ends where the whole does. Assumes nothing.
+use borrow.Author.Rules.{rules}
+use mathlib.Core.Path.{refl, ap}
+use Rattle.field_abi.proofs.Turns.{Turns, one_less, no_more}
+use Rattle.arithmetic.specs.Extension.{triple, times}
+use Rattle.arithmetic.specs.declared.Triple.{Triple}
+use Rattle.field_abi.specs.Chains.{triple_chain}
+use Rattle.field_abi.proofs.field_triple_chain.Goals as goal
+
+pub loop-k-init : goal.loop-k-init
+loop-k-init c = record { same_end = refl }
+
+pub loop-k-preserved : goal.loop-k-preserved
+loop-k-preserved c = one_less c.loop-k.invariant (search rules) c.multiply-z.ensures
+
+pub returns : goal.returns
+returns c = ap (λ (z : Triple). z.c0) (no_more c.loop-k.invariant (search rules))
