@@ -1,5 +1,5 @@
 -- The worked products of docs/BOARD.md, wire by wire, from u0 to the answer. Assumes nothing.
-use Rattle.std.specs.Prelude.{ℕ, ◌≡◌, refl, List, [], ◌∷◌}
+use Rattle.std.specs.Prelude.{◌≡◌, refl, [], ◌∷◌}
 use Rattle.arithmetic.specs.Board.{wires}
 
 -- 3 · 5

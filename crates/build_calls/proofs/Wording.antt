@@ -4,7 +4,7 @@ use mathlib.Core.Path.{◌≡◌, refl, sym, ap, ◌∙◌}
 use mathlib.Core.Logic.{⊎_elim}
 use mathlib.Core.Bool.{Bool, true, false, ◌&&◌, not}
 use mathlib.Core.Option.{Option, none, some}
-use mathlib.Core.List.{List, [], ◌∷◌}
+use mathlib.Core.List.{List}
 use native.Mathlib.Omega.{arith}
 use borrow.Author.Tests.{le-ltb, lt-ltb}
 use Rattle.arithmetic.specs.declared.Triple.{Triple}
@@ -16,9 +16,8 @@ use Rattle.layout.specs.declared.node.Expression.{Expression}
 use Rattle.layout.specs.declared.node.Expression.TheVariants.{Base, Extension, Challenge, Operation, Input}
 use Rattle.layout.specs.Lists.{if◌then◌else◌, same_words, up_to, first}
 use Rattle.layout.specs.Words.{used, limit, node_at, expression_at, registered, encode, constant, made}
-use Rattle.layout.specs.NotCircuit.{not_circuit}
 use Rattle.layout.specs.Tree.{Tree, tree_over, tree, tree_of, same}
-use Rattle.layout.proofs.Lists.{Found, Least, first-is, first-same, clash}
+use Rattle.layout.proofs.Lists.{Found, first-is, first-same, clash}
 use Rattle.layout.proofs.Tests.{last_or}
 use Rattle.layout.proofs.Refusals.{refusal_none, refusal_here, refusal_next, outcome_refused, outcome_accepted}
 use Rattle.layout.proofs.Trees.{tree_fixed}

@@ -4,7 +4,7 @@ use Rattle.layout.specs.declared.node.Expression.{Expression}
 use Rattle.layout.specs.declared.node.Expression.TheVariants.{Base, Extension, Challenge, Operation, Input}
 use Rattle.layout.specs.Lists.{same_words}
 use Rattle.layout.specs.Words.{expression_at, registered, encode}
-use Rattle.layout.specs.NotCircuit.{not_circuit, bad_expression}
+use Rattle.layout.specs.NotCircuit.{not_circuit}
 
 -- no operation
 abbrev pub is_leaf : Expression → Bool

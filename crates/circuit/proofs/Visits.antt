@@ -1,6 +1,6 @@
 -- The laws of the walk that ranks the nodes: what finishing a node keeps, and what a visit gives at each of its ends. Assumes nothing.
 use mathlib.Core.Path.{◌≡◌, refl, sym, ap, ◌∙◌}
-use mathlib.Core.Logic.{◌⊎◌, inl, inr, ⊎_elim, ◌≢◌}
+use mathlib.Core.Logic.{inl, inr, ⊎_elim, ◌≢◌}
 use mathlib.Core.Bool.{true, false, ◌||◌, not, false≢true}
 use mathlib.Core.List.{List}
 use Prim.Native.Nat.{ℕ, zero, suc, ◌+◌, ◌-◌, ◌<◌, ◌≤◌}
@@ -17,7 +17,7 @@ use Rattle.layout.specs.Lists.{up_to, any}
 use Rattle.layout.specs.Words.{used, offset, expression_at}
 use Rattle.layout.specs.NotCircuit.{bad_node, either_operand, goes_on, cyclic}
 use Rattle.circuit.specs.Rank.{at}
-use Rattle.circuit.specs.Walk.{step_of, finished, Unfinished, Taken, Walking, Walkable, Visiting, Falls, Below, Visited, Ranked, Walked}
+use Rattle.circuit.specs.Walk.{step_of, Unfinished, Taken, Walking, Walkable, Visiting, Below, Visited, Ranked, Walked}
 use Rattle.layout.proofs.Tests.{or-false, or_right, any_at, any_one, any_none, same_or, below_or, last_or}
 use Rattle.layout.proofs.Valid.{header_top, header_room, header_fits, node_operands}
 use Rattle.circuit.proofs.Marks.{finished_lt, finished_all, finished_none, finished_set}

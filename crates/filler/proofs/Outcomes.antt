@@ -16,7 +16,6 @@ use Rattle.layout.specs.Answers.{accepted, refused}
 use Rattle.layout.proofs.Tests.{or-false, or_right}
 use Rattle.layout.proofs.Lists.{or_left}
 use Rattle.layout.proofs.Refusals.{refusal_here, refusal_next, refusal_none, outcome_accepted, outcome_refused}
-use Rattle.circuit.specs.Rank.{at}
 use Rattle.read.proofs.Lists.{any_append}
 use Rattle.filling.specs.Refusals.{bad_rows, not_lowered}
 use Rattle.filling.specs.Calls.{row_filled, each_row, all_rows, fill_outcome, fill_call, fill_rows_call}

@@ -8,9 +8,9 @@ use native.Mathlib.Nat.{pow-le-pow_right, pow-succ'}
 use native.Mathlib.Numerals.{add-one}
 use lib.ListN.{length, get_or, drop, drop_of_length-le}
 use lib.Seq.{drop-cons}
-use lib.Dec.{ltb, leb}
+use lib.Dec.{leb}
 use borrow.Author.Tests.{lt-ltb, le-ltb, le-leb, lt-leb, leb-true, leb-false}
-use Rattle.layout.specs.Lists.{if◌then◌else◌, all}
+use Rattle.layout.specs.Lists.{all}
 use Rattle.layout.proofs.Lists.{clash}
 use Rattle.framing.specs.Digits.{is_digit, digit, bytes_of, number_at, character}
 

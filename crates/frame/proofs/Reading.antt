@@ -1,13 +1,11 @@
 -- Laws of what a line asks for. Assumes nothing.
 use Prim.Native.Nat.{ℕ, ◌*◌}
-use mathlib.Core.Path.{◌≡◌, refl, sym, ap, ◌∙◌}
-use mathlib.Core.Bool.{Bool, true, false, ◌&&◌}
+use mathlib.Core.Path.{◌≡◌, sym, ap, ◌∙◌}
+use mathlib.Core.Bool.{true, false}
 use mathlib.Core.List.{List}
 use lib.ListN.{length}
-use lib.Dec.{eqb}
 use borrow.Author.Tests.{eq-eqb, ne_eqb}
-use Rattle.layout.specs.Lists.{if◌then◌else◌, all}
-use Rattle.framing.specs.declared.Request.{Request}
+use Rattle.layout.specs.Lists.{all}
 use Rattle.framing.specs.declared.Request.TheVariants.{Nothing}
 use Rattle.framing.specs.declared.Form.{Form}
 use Rattle.framing.specs.Digits.{is_digit, bytes_of, number_at}

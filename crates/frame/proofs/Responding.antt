@@ -1,22 +1,21 @@
 -- Laws of what a request does: each call's answer is a reply, and a number picks its case. Assumes nothing.
 use Prim.Native.Nat.{ℕ, ◌+◌, ◌-◌, ◌<◌, ◌≤◌}
 use mathlib.Core.Path.{◌≡◌, refl, sym, ap, ◌∙◌}
-use mathlib.Core.Bool.{Bool, true, false, not}
+use mathlib.Core.Bool.{true, false, not}
 use mathlib.Core.List.{List, [], ◌∷◌, ◌++◌, append_assoc}
 use native.Mathlib.Omega.{arith}
-use lib.ListN.{length, get_or, set, take, drop, length-drop}
+use lib.ListN.{length, take, drop, length-drop}
 use lib.Seq.{sets, sets-eq, take-nil, length-take-le, drop-drop}
 use lib.Dec.{eqb}
 use borrow.Author.Tests.{eq-eqb, ne_eqb}
 use borrow.Rule.Slice.PartMut.{mid_of, put_mid}
 use Rattle.layout.specs.declared.node.RowKind.{RowKind}
-use Rattle.layout.specs.declared.node.RowKind.TheVariants.{Single, Dual}
 use Rattle.layout.specs.declared.answer.Started.{Started}
 use Rattle.layout.specs.declared.answer.Started.TheVariants as started
 use Rattle.layout.specs.Lists.{if◌then◌else◌}
 use Rattle.layout.specs.Words.{row_kind, used}
 use Rattle.layout.specs.NotCircuit.{bad_id}
-use Rattle.layout.specs.Outcomes.{Outcome, refusal}
+use Rattle.layout.specs.Outcomes.{Outcome}
 use Rattle.layout.specs.Calls.{start_call}
 use Rattle.layout.specs.Answers.{told_start}
 use Rattle.layout.proofs.Refusals.{refusal_here, refusal_next, refusal_none, bad_id_here, bad_id_next, no_bad_id}

@@ -2,7 +2,6 @@
 use Rattle.std.specs.Prelude.{ℕ, ◌-◌, List, [], ◌∷◌, T}
 use Rattle.arithmetic.specs.Base.{p}
 use Rattle.layout.specs.Lists.{agree}
-use Rattle.layout.specs.Outcomes.{Outcome}
 use Rattle.framing.specs.Texts.{bytes, program, roots_after, nodes, degree_after, texts_compute}
 
 -- what is worked out, and what follows from document 01

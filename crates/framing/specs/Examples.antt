@@ -3,7 +3,6 @@ use Rattle.std.specs.Prelude.{ℕ, ◌-◌, List, [], ◌∷◌, ◌++◌, map, 
 use Rattle.arithmetic.specs.Base.{p}
 use Rattle.layout.specs.declared.node.Position.TheVariants.{Main, Aux}
 use Rattle.layout.specs.declared.node.Op.TheVariants.{Multiply}
-use Rattle.layout.specs.declared.node.Expression.{Expression}
 use Rattle.layout.specs.declared.node.Expression.TheVariants.{Operation, Input}
 use Rattle.layout.specs.Lists.{any, agree, bit}
 use Rattle.layout.specs.Words.{limit, offset}

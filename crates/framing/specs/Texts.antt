@@ -3,7 +3,6 @@ use Rattle.std.specs.Prelude.{ℕ, ◌*◌, List, [], ◌∷◌, take, drop}
 use Prim.Native.Char.{code}
 use Prim.Native.String.{String, [] as end, ◌∷◌ as next}
 use Rattle.layout.specs.Words.{used, offset}
-use Rattle.layout.specs.Outcomes.{Outcome}
 use Rattle.reading.specs.Calls.{degree_call}
 use Rattle.reading.specs.Examples.{integer, words}
 use Rattle.framing.specs.States.{State, roots_of, fresh}

@@ -1,7 +1,7 @@
 -- Laws of building calls with kept tables: what a call answers, and that its tables fit what it leaves. Assumes nothing.
 use Prim.Native.Nat.{ℕ, suc, ◌<◌, ◌≤◌}
 use mathlib.Core.Path.{◌≡◌, sym, ◌∙◌}
-use mathlib.Core.Bool.{Bool, true, false, ◌||◌}
+use mathlib.Core.Bool.{Bool, false, ◌||◌}
 use mathlib.Core.List.{List, [], ◌∷◌, ◌++◌}
 use borrow.Author.Tests.{leb-false}
 use Rattle.arithmetic.specs.declared.Triple.{Triple}

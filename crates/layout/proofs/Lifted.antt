@@ -1,7 +1,7 @@
 -- No extension constant of a circuit is a lifted base constant: it would unlift, and then it isn't stored. Assumes nothing.
 use Prim.Native.Nat.{ℕ, ◌<◌}
-use mathlib.Core.Path.{◌≡◌, refl, sym, ap, ◌∙◌}
-use mathlib.Core.Bool.{Bool, true, false, ◌&&◌, ◌||◌}
+use mathlib.Core.Path.{◌≡◌, refl}
+use mathlib.Core.Bool.{Bool, true, false, ◌&&◌}
 use mathlib.Core.List.{List}
 use lib.Dec.{eqb, ltb}
 use Rattle.arithmetic.specs.declared.Triple.{Triple}

@@ -12,7 +12,6 @@ use Rattle.layout.specs.Words.{row_kind, used, limit, word, decode, is_main, is_
 use Rattle.layout.specs.Tree.{tree, same}
 use Rattle.layout.specs.NotCircuit.{not_circuit}
 use Rattle.layout.specs.Lifted.{lifted_is}
-use Rattle.layout.specs.Outcomes.{Outcome}
 use Rattle.layout.specs.Calls.{start_call, read_call, used_call, free_call}
 use Rattle.layout.specs.Samples.{sample, damage, loosen}
 use Rattle.layout.specs.Computing.{circuit_computes}

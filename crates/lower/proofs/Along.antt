@@ -1,18 +1,14 @@
 -- A lowering on its way: what the next choice and the next substitution ask holds before each of them. Assumes nothing.
 use Prim.Native.Nat.{ℕ, zero, suc, ◌+◌, ◌*◌, ◌≤◌, ◌<◌}
-use mathlib.Core.Path.{◌≡◌, refl, sym, ◌∙◌, ap}
-use mathlib.Core.Logic.{◌≢◌}
-use mathlib.Core.Bool.{Bool, true, false, ◌||◌}
-use mathlib.Core.List.{List, [], ◌∷◌, ◌++◌}
+use mathlib.Core.Path.{◌≡◌, ◌∙◌, ap}
+use mathlib.Core.Bool.{true, false}
+use mathlib.Core.List.{List}
 use native.Mathlib.Omega.{arith}
 use lib.ListN.{length}
-use lib.Dec.{ltb, leb}
-use borrow.Author.Tests.{le-ltb, lt-leb}
-use Rattle.layout.specs.declared.node.Position.{Position}
-use Rattle.layout.specs.declared.node.Position.TheVariants.{Main, Aux}
-use Rattle.layout.specs.declared.node.Expression.TheVariants.{Input}
-use Rattle.layout.specs.Lists.{if◌then◌else◌, any}
-use Rattle.layout.specs.Words.{used, limit, column, made}
+use lib.Dec.{leb}
+use borrow.Author.Tests.{lt-leb}
+use Rattle.layout.specs.Lists.{any}
+use Rattle.layout.specs.Words.{used, limit, column}
 use Rattle.layout.specs.NotCircuit.{not_circuit, bad_id}
 use Rattle.layout.proofs.Tests.{is_false}
 use Rattle.layout.proofs.Lists.{clash}

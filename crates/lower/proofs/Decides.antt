@@ -9,7 +9,7 @@ use lib.ListN.{length}
 use lib.Dec.{ltb}
 use borrow.Author.Tests.{ltb-false}
 use Rattle.layout.specs.Lists.{if◌then◌else◌}
-use Rattle.layout.specs.Outcomes.{refusal, outcome}
+use Rattle.layout.specs.Outcomes.{refusal}
 use Rattle.layout.specs.Answers.{accepted, refused}
 use Rattle.layout.proofs.Refusals.{refusal_none, refusal_next, outcome_accepted, outcome_refused}
 use Rattle.paths.proofs.Written.{written_none}

@@ -1,33 +1,33 @@
 -- After a substitution no degree is higher and no node occurs more often: DEGREE and PATHS, tested at the start, hold to the end. Assumes nothing.
 use Prim.Native.Nat.{ℕ, zero, suc, ◌+◌, ◌-◌, ◌<◌, ◌≤◌}
 use mathlib.Core.Path.{◌≡◌, refl, sym, ◌∙◌, ap}
-use mathlib.Core.Logic.{◌≢◌, ◌⊎◌, inl, inr, ⊎_elim}
+use mathlib.Core.Logic.{◌≢◌, ◌⊎◌, inl, inr}
 use mathlib.Core.Bool.{Bool, true, false, ◌&&◌}
 use mathlib.Core.Option.{some}
-use mathlib.Core.List.{List, [], ◌∷◌, ◌++◌, map}
+use mathlib.Core.List.{List, [], ◌∷◌, ◌++◌}
 use native.Mathlib.Nat.{add-suc, add-zero}
 use native.Mathlib.Omega.{arith}
-use lib.Dec.{ltb, eqb}
+use lib.Dec.{ltb}
 use borrow.Author.Tests.{ltb-true, ltb-false, ne_eqb}
 use Rattle.layout.specs.declared.node.Position.{Position}
-use Rattle.layout.specs.Lists.{if◌then◌else◌, up_to, In, any, keep, count}
-use Rattle.layout.specs.Words.{used, registered}
+use Rattle.layout.specs.Lists.{if◌then◌else◌, up_to, any, keep, count}
+use Rattle.layout.specs.Words.{used}
 use Rattle.layout.specs.Tree.{input_leaf, Tree, leaf, branch, tree}
 use Rattle.layout.proofs.Tests.{is_false, any_at, any_none}
-use Rattle.layout.proofs.Lists.{and-true, and_both, clash}
+use Rattle.layout.proofs.Lists.{and-true, clash}
 use Rattle.walking.specs.Paths.{walk, walks, paths}
 use Rattle.paths.proofs.Walks.{count-append, from, paths_none, paths_more}
-use Rattle.paths.proofs.Below.{any_in, any_some, paths_in, in_paths}
+use Rattle.paths.proofs.Below.{any_in, any_some, paths_in}
 use Rattle.reading.specs.Readings.{degree⁺, above}
 use Rattle.reading.specs.Refusals.{over_degree}
 use Rattle.lowering.specs.Lowering.{Lowering, below_above}
 use Rattle.lowering.specs.Refusals.{over_occurrences}
-use Rattle.lowering.proofs.Shape.{leaf_e, op_e, Shape, lf, Look, Unf, deg}
-use Rattle.lowering.proofs.Steps.{Moved, Move, Below, Rooted}
+use Rattle.lowering.proofs.Shape.{leaf_e, op_e, Shape, lf, Look, deg}
+use Rattle.lowering.proofs.Steps.{Moved, Move, Below}
 use Rattle.lowering.proofs.Unfold.{deg_sub}
 use Rattle.lowering.proofs.OneStep.{tree_after}
 use Rattle.lowering.proofs.Count.{unf_some, below_tree, below_after}
-use Rattle.lowering.proofs.ListLaws.{in_keep, in_up_to}
+use Rattle.lowering.proofs.ListLaws.{in_keep}
 use Rattle.lowering.proofs.Words.{look, look_lt, Tru, tree_of}
 use Rattle.lowering.proofs.Chooses.{degree_is, above_true, above_yes, walk_below, in_walks, below_walks, walks_below, paths_below, in_high, high_in_lem}
 use Rattle.lowering.proofs.OneMore.{State, OneMore, state_after}

@@ -1,7 +1,7 @@
 -- What the loops find in the tables is what the definitions say. Assumes nothing.
-use Prim.Native.Nat.{ℕ, zero, suc, ◌<◌, ◌≤◌, min}
+use Prim.Native.Nat.{ℕ, suc, ◌<◌, ◌≤◌}
 use mathlib.Core.Path.{◌≡◌, refl, sym, ◌∙◌, ap}
-use mathlib.Core.Logic.{◌⊎◌, inl, inr}
+use mathlib.Core.Logic.{inl, inr}
 use mathlib.Core.Bool.{Bool, true, false, ◌&&◌, ◌||◌, not}
 use mathlib.Core.List.{List, [], ◌∷◌, map}
 use native.Mathlib.Omega.{arith}
@@ -16,11 +16,11 @@ use Rattle.circuit.specs.Rank.{at}
 use Rattle.layout.proofs.Tests.{any_at}
 use Rattle.layout.proofs.Lists.{and-true}
 use Rattle.walking.specs.Paths.{walks, paths}
-use Rattle.paths.specs.Counting.{over, PathCounts}
+use Rattle.paths.specs.Counting.{PathCounts}
 use Rattle.paths.proofs.Below.{any_walks, root_below, paths_in, any_some}
 use Rattle.reading.specs.Readings.{degree⁺, above}
 use Rattle.reading.specs.Refusals.{over_degree}
-use Rattle.lowering.specs.Lowering.{Candidate, below_above, M, too_high, candidates, best}
+use Rattle.lowering.specs.Lowering.{below_above, M, too_high, candidates, best}
 use Rattle.lowering.specs.Refusals.{loose, over_occurrences}
 use Rattle.lower.specs.Tables.{Degrees, above_in, is_high_in, high_in, is_candidate_in, candidate_in, best_in, is_loose_in, is_over_in}
 use Rattle.lowering.proofs.ListLaws.{any_false, in_up_to}

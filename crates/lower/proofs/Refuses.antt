@@ -1,14 +1,13 @@
 -- The tests from the tables are the tests of the definitions. Assumes nothing.
-use Prim.Native.Nat.{ℕ, suc, ◌+◌, ◌-◌, ◌*◌, ◌<◌, ◌≤◌}
-use mathlib.Core.Path.{◌≡◌, refl, sym, ◌∙◌, ap}
+use Prim.Native.Nat.{ℕ, ◌-◌, ◌*◌, ◌≤◌}
+use mathlib.Core.Path.{◌≡◌, sym, ◌∙◌}
 use mathlib.Core.Bool.{Bool, true, false, ◌&&◌, ◌||◌, not}
 use mathlib.Core.List.{List}
 use native.Mathlib.Omega.{arith}
-use lib.ListN.{length}
 use lib.Dec.{ltb}
 use borrow.Author.Tests.{not-true, not-false}
 use Rattle.layout.specs.Lists.{any, up_to}
-use Rattle.layout.specs.Words.{used, limit, expression_at}
+use Rattle.layout.specs.Words.{used, limit}
 use Rattle.layout.specs.NotCircuit.{not_circuit, bad_id}
 use Rattle.layout.specs.Outcomes.{refusal}
 use Rattle.walking.specs.Paths.{paths}

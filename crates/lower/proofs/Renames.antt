@@ -2,7 +2,7 @@
 use Prim.Native.Nat.{ℕ, zero, suc, ◌+◌, ◌<◌}
 use mathlib.Core.Path.{◌≡◌, refl, sym, ◌∙◌, ap}
 use mathlib.Core.Logic.{⊎_elim}
-use mathlib.Core.Bool.{Bool, true, false, ◌||◌}
+use mathlib.Core.Bool.{true, false, ◌||◌}
 use mathlib.Core.List.{List, [], ◌∷◌, map}
 use native.Mathlib.Numerals.{add-one}
 use native.Mathlib.Omega.{arith}
@@ -12,8 +12,6 @@ use borrow.Author.Tests.{eqb-true}
 use Rattle.layout.specs.declared.node.Node.{Node}
 use Rattle.layout.specs.declared.node.Op.{Op}
 use Rattle.layout.specs.declared.node.Op.TheVariants.{Add, Multiply}
-use Rattle.layout.specs.declared.node.Expression.TheVariants.{Operation}
-use Rattle.circuit.specs.declared.check.Step.{Step}
 use Rattle.circuit.specs.declared.check.Step.TheVariants.{Stay, Two}
 use Rattle.layout.specs.Lists.{up_to, each}
 use Rattle.layout.specs.Words.{offset, word, decode, node_at, expression_at, op_kind}

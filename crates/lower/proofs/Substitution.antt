@@ -6,7 +6,6 @@ use mathlib.Core.List.{List, map}
 use Rattle.layout.specs.declared.node.Expression.{Expression}
 use Rattle.layout.specs.Words.{used, limit, made}
 use Rattle.layout.specs.Tree.{tree}
-use Rattle.circuit.specs.Rank.{at}
 use Rattle.layout.proofs.Lists.{clash}
 use Rattle.layout.proofs.Valid.{valid_room}
 use Rattle.build.specs.declared.steps.Made.{Made}

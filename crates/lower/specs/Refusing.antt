@@ -1,5 +1,5 @@
 -- The refusals of a lowering, as the two groups of tests give them, and the tests as the tables give them. Assumes nothing.
-use Rattle.std.specs.Prelude.{ℕ, ◌+◌, ◌-◌, ◌≡◌, Bool, false, ◌&&◌, ◌||◌, List, [], ◌∷◌, ltb}
+use Rattle.std.specs.Prelude.{ℕ, ◌+◌, ◌≡◌, Bool, false, ◌&&◌, ◌||◌, List, [], ◌∷◌, ltb}
 use Rattle.layout.specs.Lists.{any, up_to}
 use Rattle.layout.specs.Words.{used, expression_at}
 use Rattle.layout.specs.NotCircuit.{not_circuit, bad_id}

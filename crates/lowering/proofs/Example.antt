@@ -5,12 +5,10 @@ use mathlib.Core.Bool.{true}
 use mathlib.Core.List.{List, [], ◌∷◌}
 use lib.ListN.{replicate}
 use Rattle.arithmetic.specs.Base.{minus_one}
-use Rattle.layout.specs.Lists.{count}
 use Rattle.layout.specs.declared.node.Op.TheVariants.{Multiply}
 use Rattle.layout.specs.declared.node.Expression.TheVariants.{Operation}
 use Rattle.layout.specs.Words.{node_at}
-use Rattle.lowering.specs.Lowering.{Lowering, too_high, redirected, lowered}
-use Rattle.lowering.specs.Refusals.{loose}
+use Rattle.lowering.specs.Lowering.{Lowering, too_high, lowered}
 use Rattle.lowering.specs.Calls.{lower_call, returned}
 use Rattle.lowering.specs.Demand.{Demand3}
 use Rattle.lowering.specs.Computing.{lower_computes}

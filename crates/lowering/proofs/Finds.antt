@@ -21,7 +21,6 @@ use Rattle.layout.specs.Words.{used, decode, node_at, registered, op_kind, encod
 use Rattle.layout.specs.Tree.{Leaf, base_leaf, extension_leaf, challenge_leaf, input_leaf, Tree, leaf, branch, tree, tree_of, plain, same}
 use Rattle.building.specs.Building.{Built, built, find, or_else, find_or_make, either_order}
 use Rattle.lowering.proofs.Shape.{Expr, leaf_e, op_e, expr_of, Shape, lf, op, shape, Look, Unf}
-use Rattle.lowering.proofs.Steps.{more}
 use Rattle.lowering.proofs.ListLaws.{and-true, and_both, up_to_in, in_up_to, first_some, first-none}
 use Rattle.lowering.proofs.Unfold.{one_tree}
 use Rattle.lowering.proofs.Words.{look, look_lt, Sound, tree_shape, shape_is}

@@ -12,7 +12,7 @@ use Rattle.layout.specs.declared.node.Op.{Op}
 use Rattle.layout.specs.declared.node.Op.TheVariants.{Add, Multiply}
 use Rattle.reading.specs.Readings.{product_degree⁺}
 use Rattle.lowering.proofs.Shape.{op_e, Shape, lf, op, Look, Unf, sub, deg_op, deg}
-use Rattle.lowering.proofs.Steps.{Below, root, left, right, Regs, Heavy, TooHigh, Choice, redir_id, Stepped, step}
+use Rattle.lowering.proofs.Steps.{Below, root, left, right, Regs, Heavy, TooHigh, Choice, redir_id, Stepped}
 use Rattle.lowering.proofs.Unfold.{one_tree, leaf_low, deg_low}
 use Rattle.lowering.proofs.OneStep.{tree_after}
 use Rattle.lowering.proofs.Count.{redir_cases, map_in}

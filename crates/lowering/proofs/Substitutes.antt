@@ -21,7 +21,7 @@ use Rattle.building.specs.Building.{Built, built, find, or_else, find_or_make, s
 use Rattle.reading.specs.Readings.{is_base}
 use Rattle.lowering.specs.Lowering.{renamed, redirected, Lowering, substituted}
 use Rattle.lowering.proofs.Shape.{Expr, leaf_e, Shape, lf, shape, Unf, sub, deg, base_s}
-use Rattle.lowering.proofs.Steps.{Move, redir_e, Stepped, step}
+use Rattle.lowering.proofs.Steps.{Move, redir_e, Stepped}
 use Rattle.lowering.proofs.Unfold.{one_tree}
 use Rattle.lowering.proofs.OneStep.{tree_after, tree_stays}
 use Rattle.lowering.proofs.Count.{unf_some}

@@ -1,5 +1,5 @@
 -- No used node reads a column that an accepted lowering adds, in either row. Assumes nothing.
-use Prim.Native.Nat.{ℕ, ◌+◌, ◌≤◌, ◌<◌}
+use Prim.Native.Nat.{ℕ, ◌+◌, ◌<◌}
 use mathlib.Core.Path.{◌≡◌, refl, ap, ◌∙◌}
 use mathlib.Core.Logic.{◌⊎◌, inl, inr, ⊎_elim}
 use mathlib.Core.Bool.{Bool, true, false}
@@ -14,7 +14,7 @@ use Rattle.layout.specs.declared.node.Expression.TheVariants.{Input}
 use Rattle.layout.specs.Words.{used, expression_at}
 use Rattle.lowering.specs.Lowering.{Lowering, too_high}
 use Rattle.lowering.specs.Calls.{lower_call, returned}
-use Rattle.lowering.specs.Unread.{Unused, Unread}
+use Rattle.lowering.specs.Unread.{Unread}
 use Rattle.lowering.proofs.Shape.{expr_of}
 use Rattle.lowering.proofs.Words.{look_in}
 use Rattle.lowering.proofs.OneMore.{Taken}

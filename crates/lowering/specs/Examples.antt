@@ -4,8 +4,7 @@ use Rattle.arithmetic.specs.Base.{p}
 use Rattle.arithmetic.specs.Extension.{triple}
 use Rattle.layout.specs.declared.node.Position.{Position}
 use Rattle.layout.specs.declared.node.Position.TheVariants.{Main, Aux, NextMain, NextAux}
-use Rattle.layout.specs.declared.node.Op.TheVariants.{Add, Multiply}
-use Rattle.layout.specs.declared.node.Expression.{Expression}
+use Rattle.layout.specs.declared.node.Op.TheVariants.{Multiply}
 use Rattle.layout.specs.declared.node.Expression.TheVariants.{Base, Extension, Challenge, Operation, Input}
 use Rattle.layout.specs.Lists.{agree}
 use Rattle.layout.specs.Words.{used, offset}

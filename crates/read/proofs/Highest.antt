@@ -1,7 +1,7 @@
 -- The degrees below a list of roots: which is over the bound, and which is the highest. Assumes nothing.
 use Prim.Native.Nat.{ℕ, suc, ◌-◌, ◌<◌, ◌≤◌, min, max}
 use mathlib.Core.Path.{◌≡◌, refl, sym, ap, ◌∙◌}
-use mathlib.Core.Logic.{◌⊎◌, inl, inr, ⊎_elim}
+use mathlib.Core.Logic.{inl, inr, ⊎_elim}
 use mathlib.Core.Bool.{Bool, false, ◌&&◌}
 use mathlib.Core.List.{List, [], ◌∷◌, map, foldr}
 use native.Mathlib.Omega.{arith}

@@ -1,9 +1,7 @@
 -- `field_abi::field_chain` meets its contract: what is left of the chain ends where the whole does. Assumes nothing.
 use borrow.Author.Rules.{rules}
 use mathlib.Core.Path.{refl}
-use Rattle.field_abi.proofs.Turns.{Turns, one_less, no_more}
-use Rattle.arithmetic.specs.Base.{multiply}
-use Rattle.field_abi.specs.Chains.{word_chain}
+use Rattle.field_abi.proofs.Turns.{one_less, no_more}
 use Rattle.field_abi.proofs.field_chain.Goals as goal
 
 pub loop-k-init : goal.loop-k-init

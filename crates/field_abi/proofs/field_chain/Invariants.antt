@@ -1,6 +1,4 @@
-use borrow.Author.Rules.{rules}
-use mathlib.Core.Path.{refl}
-use Rattle.field_abi.proofs.Turns.{Turns, one_less, no_more}
+use Rattle.field_abi.proofs.Turns.{Turns}
 use Rattle.arithmetic.specs.Base.{multiply}
 use Rattle.field_abi.specs.Chains.{word_chain}
 use Rattle.field_abi.proofs.field_chain.Given as goal

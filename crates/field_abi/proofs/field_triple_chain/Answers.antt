@@ -1,10 +1,8 @@
 -- `field_abi::field_triple_chain` meets its contract: what is left of the chain ends where the whole does. Assumes nothing.
 use borrow.Author.Rules.{rules}
 use mathlib.Core.Path.{refl, ap}
-use Rattle.field_abi.proofs.Turns.{Turns, one_less, no_more}
-use Rattle.arithmetic.specs.Extension.{triple, times}
+use Rattle.field_abi.proofs.Turns.{one_less, no_more}
 use Rattle.arithmetic.specs.declared.Triple.{Triple}
-use Rattle.field_abi.specs.Chains.{triple_chain}
 use Rattle.field_abi.proofs.field_triple_chain.Goals as goal
 
 pub loop-k-init : goal.loop-k-init

@@ -1,8 +1,5 @@
-use borrow.Author.Rules.{rules}
-use mathlib.Core.Path.{refl, ap}
-use Rattle.field_abi.proofs.Turns.{Turns, one_less, no_more}
+use Rattle.field_abi.proofs.Turns.{Turns}
 use Rattle.arithmetic.specs.Extension.{triple, times}
-use Rattle.arithmetic.specs.declared.Triple.{Triple}
 use Rattle.field_abi.specs.Chains.{triple_chain}
 use Rattle.field_abi.proofs.field_triple_chain.Given as goal
 

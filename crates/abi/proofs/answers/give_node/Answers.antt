@@ -1,7 +1,6 @@
 use mathlib.Core.Path.{ap, ◌∙◌}
 use lib.Seq.{sets}
 use Rattle.abi.proofs.Passing.{node_words}
-use borrow.Author.Rules.{rules}
 use Rattle.abi.proofs.answers.give_node.Goals as goal
 
 pub returns : goal.returns

@@ -1,6 +1,5 @@
 use Rattle.abi.proofs.Passing.{put_six}
 use mathlib.Core.Path.{refl}
-use borrow.Author.Rules.{rules}
 use Rattle.abi.proofs.answers.give_six.Goals as goal
 
 pub returns : goal.returns

@@ -1,6 +1,5 @@
 use Rattle.abi.proofs.Passing.{put_two}
 use mathlib.Core.Path.{refl}
-use borrow.Author.Rules.{rules}
 use Rattle.abi.proofs.answers.give_two.Goals as goal
 
 pub returns : goal.returns

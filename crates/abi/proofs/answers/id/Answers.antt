@@ -1,5 +1,4 @@
 use mathlib.Core.Path.{refl}
-use borrow.Author.Rules.{rules}
 use Rattle.abi.proofs.answers.id.Goals as goal
 
 pub returns-in-Id : goal.returns-in-Id

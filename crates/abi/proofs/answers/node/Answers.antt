@@ -1,6 +1,5 @@
 use Rattle.layout.specs.Words.{encode}
 use mathlib.Core.Path.{refl}
-use borrow.Author.Rules.{rules}
 use Rattle.abi.proofs.answers.node.Goals as goal
 
 pub returns-in-Found : goal.returns-in-Found

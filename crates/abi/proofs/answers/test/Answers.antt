@@ -2,7 +2,6 @@ use mathlib.Core.Path.{refl, ap, ◌∙◌}
 use mathlib.Core.List.{[], ◌∷◌}
 use Prim.Native.Nat.{ℕ}
 use lib.Seq.{sets}
-use borrow.Author.Rules.{rules}
 use Rattle.abi.proofs.answers.test.Goals as goal
 
 pub returns-in-Answer : goal.returns-in-Answer

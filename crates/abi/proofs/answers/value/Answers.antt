@@ -1,5 +1,4 @@
 use mathlib.Core.Path.{refl}
-use borrow.Author.Rules.{rules}
 use Rattle.abi.proofs.answers.value.Goals as goal
 
 pub returns-in-Found : goal.returns-in-Found

@@ -1,7 +1,6 @@
 use Rattle.std.proofs.Common.{ap, not}
 use Rattle.layout.proofs.Refusals.{refusal_here, refusal_next, refusal_none, refuses, accepts}
 use mathlib.Core.Path.{sym, ◌∙◌}
-use borrow.Author.Rules.{rules}
 use Rattle.abi.proofs.circuits.atz_is_circuit.Goals as goal
 
 pub returns-then-not-is_circuit : goal.returns-then-not-is_circuit

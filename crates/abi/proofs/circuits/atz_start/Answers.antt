@@ -1,6 +1,5 @@
 use Rattle.abi.proofs.Passing.{done_on, single, dual, no_kind}
 use mathlib.Core.Path.{refl}
-use borrow.Author.Rules.{rules}
 use Rattle.abi.proofs.circuits.atz_start.Goals as goal
 
 pub returns-then-kind-eq1 : goal.returns-then-kind-eq1

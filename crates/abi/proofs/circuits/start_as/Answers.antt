@@ -1,6 +1,5 @@
 use Rattle.abi.proofs.Passing.{done_on}
 use mathlib.Core.Path.{refl}
-use borrow.Author.Rules.{rules}
 use Rattle.abi.proofs.circuits.start_as.Goals as goal
 
 pub returns-in-Fresh : goal.returns-in-Fresh

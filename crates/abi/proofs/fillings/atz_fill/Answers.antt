@@ -1,6 +1,5 @@
 use Rattle.abi.proofs.Passing.{done_on}
 use mathlib.Core.Path.{refl}
-use borrow.Author.Rules.{rules}
 use Rattle.abi.proofs.fillings.atz_fill.Goals as goal
 
 pub returns-in-Done : goal.returns-in-Done

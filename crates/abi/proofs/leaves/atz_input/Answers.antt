@@ -3,7 +3,6 @@ use mathlib.Core.Path.{refl, ap, ◌∙◌}
 use Rattle.layout.proofs.Refusals.{refuses, accepts}
 use Rattle.building.specs.Calls.{input_call}
 use Rattle.abi.proofs.Passing.{handed_on, known_row, no_circuit, no_row}
-use borrow.Author.Rules.{rules}
 use Rattle.abi.proofs.leaves.atz_input.Goals as goal
 
 pub returns-then-row-lt4 : goal.returns-then-row-lt4

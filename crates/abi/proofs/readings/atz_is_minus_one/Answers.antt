@@ -1,5 +1,4 @@
 use Rattle.abi.proofs.Passing.{handed_on}
-use borrow.Author.Rules.{rules}
 use Rattle.abi.proofs.readings.atz_is_minus_one.Goals as goal
 
 pub returns : goal.returns

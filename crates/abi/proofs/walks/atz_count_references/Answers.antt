@@ -1,6 +1,5 @@
 use Rattle.abi.proofs.Passing.{done_on}
 use mathlib.Core.Path.{refl}
-use borrow.Author.Rules.{rules}
 use Rattle.abi.proofs.walks.atz_count_references.Goals as goal
 
 pub returns-in-Written : goal.returns-in-Written

@@ -1,6 +1,5 @@
 use mathlib.Core.Path.{sym, ◌∙◌}
 use Rattle.layout.specs.Words.{constant}
-use borrow.Author.Rules.{rules}
 use Rattle.build.proofs.constants.constant.Goals as goal
 
 pub returns-then-unlifts : goal.returns-then-unlifts

@@ -1,4 +1,3 @@
-use borrow.Author.Rules.{rules}
 use Rattle.build.proofs.constants.constant_of.Goals as goal
 
 pub returns-in-Base : goal.returns-in-Base

@@ -1,4 +1,3 @@
-use borrow.Author.Rules.{rules}
 use Rattle.build.proofs.constants.simplified.Goals as goal
 
 pub returns-in-Add : goal.returns-in-Add

@@ -1,6 +1,5 @@
 use mathlib.Core.Path.{sym, ◌∙◌}
 use Rattle.build.specs.Inner.{simplified}
-use borrow.Author.Rules.{rules}
 use Rattle.build.proofs.constants.simplified_product.Goals as goal
 
 pub returns-then-is_constant : goal.returns-then-is_constant

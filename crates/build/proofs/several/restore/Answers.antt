@@ -1,9 +1,7 @@
-use Prim.Native.Nat.{◌-◌, ◌*◌}
-use mathlib.Core.Path.{◌≡◌, refl}
+use mathlib.Core.Path.{refl}
 use native.Mathlib.Omega.{arith}
 use lib.ListN.{length-set}
-use Rattle.layout.specs.Words.{used, offset}
-use Rattle.build.proofs.Saving.{Restoring, restore_start, restore_more, restore_end}
+use Rattle.build.proofs.Saving.{restore_start, restore_more, restore_end}
 use Rattle.build.proofs.several.restore.Goals as goal
 
 pub overflow_mul-at : goal.overflow_mul-at

@@ -1,8 +1,6 @@
-use Rattle.build.proofs.Saving.{Saving, save_more}
-use Prim.Native.Nat.{◌-◌}
+use Rattle.build.proofs.Saving.{save_more}
 use mathlib.Core.Path.{refl}
 use native.Mathlib.Omega.{arith}
-use lib.ListN.{length}
 use Rattle.build.proofs.several.save.Goals as goal
 
 pub bounds-m-1 : goal.bounds-m-1

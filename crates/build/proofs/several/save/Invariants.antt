@@ -1,7 +1,5 @@
-use Rattle.build.proofs.Saving.{Saving, save_more}
+use Rattle.build.proofs.Saving.{Saving}
 use Prim.Native.Nat.{◌-◌}
-use mathlib.Core.Path.{refl}
-use native.Mathlib.Omega.{arith}
 use lib.ListN.{length}
 use Rattle.build.proofs.several.save.Given as goal
 

@@ -2,7 +2,6 @@ use native.Mathlib.Omega.{arith}
 use Rattle.layout.proofs.Valid.{valid_length, valid_room}
 use Rattle.build.proofs.Stepping.{told_at, told_full}
 use Rattle.build.proofs.Undoing.{classable, back_step, sum_fits}
-use borrow.Author.Rules.{rules}
 use Rattle.build.proofs.several.sum.Goals as goal
 
 pub bounds-m-1 : goal.bounds-m-1

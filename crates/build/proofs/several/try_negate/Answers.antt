@@ -1,7 +1,6 @@
 use Rattle.layout.proofs.Valid.{valid_room}
 use Rattle.build.proofs.Stepping.{told_at, told_full}
 use Rattle.build.proofs.Runs.{minus_makable, negate_operable, negate_then, negate_stops}
-use borrow.Author.Rules.{rules}
 use Rattle.build.proofs.several.try_negate.Goals as goal
 
 pub find_or_make-minus-requires : goal.find_or_make-minus-requires

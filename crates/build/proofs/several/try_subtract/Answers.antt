@@ -1,6 +1,5 @@
 use Rattle.build.proofs.Stepping.{told_at, told_full}
 use Rattle.build.proofs.Runs.{subtract_operable, subtract_then, subtract_stops}
-use borrow.Author.Rules.{rules}
 use Rattle.build.proofs.several.try_subtract.Goals as goal
 
 pub operate-requires : goal.operate-requires

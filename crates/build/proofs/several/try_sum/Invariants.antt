@@ -1,11 +1,6 @@
-use borrow.Author.Rules.{rules}
 use Prim.Native.Nat.{◌-◌}
-use mathlib.Core.Path.{◌∙◌}
-use native.Mathlib.Omega.{arith}
 use lib.ListN.{length}
-use Rattle.layout.proofs.Valid.{valid_room}
-use Rattle.build.proofs.Stepping.{told_at, told_full}
-use Rattle.build.proofs.Runs.{Summing, sum_start, sum_end, sum_operable, sum_next, sum_stops}
+use Rattle.build.proofs.Runs.{Summing}
 use Rattle.build.proofs.several.try_sum.Given as goal
 
 abbrev pub invariant-loop-k : goal.invariant-loop-k

@@ -1,5 +1,4 @@
 use Rattle.build.proofs.Stepping.{operation_makable, swapped_findable, swapped_here, swapped_none, step_of_lem}
-use borrow.Author.Rules.{rules}
 use Rattle.build.proofs.steps.either_order.Goals as goal
 
 pub find-found-requires : goal.find-found-requires

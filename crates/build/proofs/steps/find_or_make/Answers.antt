@@ -1,5 +1,4 @@
 use Rattle.build.proofs.Stepping.{findable, found_here, found_none, step_of_lem}
-use borrow.Author.Rules.{rules}
 use Rattle.build.proofs.steps.find_or_make.Goals as goal
 
 pub find-found-requires : goal.find-found-requires

@@ -1,6 +1,5 @@
 use Rattle.layout.proofs.Valid.{valid_fits}
 use Rattle.build.proofs.Stepping.{constant_read, fold_makable, fold_two, fold_left, fold_right, step_of_lem}
-use borrow.Author.Rules.{rules}
 use Rattle.build.proofs.steps.folding.Goals as goal
 
 pub expression_at-requires : goal.expression_at-requires

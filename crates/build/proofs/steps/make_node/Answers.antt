@@ -1,7 +1,6 @@
 use native.Mathlib.Omega.{arith}
 use Rattle.layout.proofs.Valid.{valid_length, valid_header, header_top}
 use Rattle.build.proofs.Stepping.{no_place, joins, made_step}
-use borrow.Author.Rules.{rules}
 use Rattle.build.proofs.steps.make_node.Goals as goal
 
 pub bounds-m-1 : goal.bounds-m-1

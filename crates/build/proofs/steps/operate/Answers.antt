@@ -1,6 +1,5 @@
 use Rattle.layout.proofs.Valid.{valid_fits}
 use Rattle.build.proofs.Stepping.{simple_here, simple_none, step_of_lem}
-use borrow.Author.Rules.{rules}
 use Rattle.build.proofs.steps.operate.Goals as goal
 
 pub simplified-simple-requires : goal.simplified-simple-requires

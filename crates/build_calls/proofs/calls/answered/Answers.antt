@@ -1,4 +1,3 @@
-use borrow.Author.Rules.{rules}
 use Rattle.build_calls.proofs.calls.answered.Goals as goal
 
 pub returns-in-At : goal.returns-in-At

@@ -3,7 +3,6 @@ use mathlib.Core.Path.{refl, sym, ◌∙◌}
 use Rattle.layout.proofs.Refusals.{refuses, refusal_here, refusal_next}
 use Rattle.building.specs.Calls.{base_call}
 use Rattle.build_calls.proofs.Endings.{no_circuit, refuses_by, only_full, checked}
-use borrow.Author.Rules.{rules}
 use Rattle.build_calls.proofs.calls.base_constant.Goals as goal
 
 pub returns-then-not-check : goal.returns-then-not-check

@@ -4,7 +4,6 @@ use Rattle.layout.proofs.Refusals.{refuses, refusal_here, refusal_next}
 use Rattle.building.specs.Calls.{extension_call}
 use Rattle.build_calls.proofs.Endings.{no_circuit, refuses_by, only_full, checked}
 use Rattle.build_calls.proofs.Wording.{constant_leaf}
-use borrow.Author.Rules.{rules}
 use Rattle.build_calls.proofs.calls.extension_constant.Goals as goal
 
 pub returns-then-not-check : goal.returns-then-not-check

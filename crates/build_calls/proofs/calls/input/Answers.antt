@@ -5,7 +5,6 @@ use Rattle.layout.proofs.Refusals.{refuses, refusal_here, refusal_next}
 use Rattle.layout.proofs.Valid.{valid_length}
 use Rattle.building.specs.Calls.{input_call}
 use Rattle.build_calls.proofs.Endings.{no_circuit, refuses_by, only_full, checked}
-use borrow.Author.Rules.{rules}
 use Rattle.build_calls.proofs.calls.input.Goals as goal
 
 pub returns-then-not-check : goal.returns-then-not-check

@@ -1,5 +1,4 @@
 use Rattle.building.specs.Calls.{minus_one_call}
-use borrow.Author.Rules.{rules}
 use Rattle.build_calls.proofs.calls.minus_one.Goals as goal
 
 pub returns : goal.returns

@@ -1,6 +1,5 @@
 use Rattle.building.specs.Calls.{negate_call}
 use Rattle.build_calls.proofs.Endings.{one_twice}
-use borrow.Author.Rules.{rules}
 use Rattle.build_calls.proofs.calls.negate.Goals as goal
 
 pub returns : goal.returns

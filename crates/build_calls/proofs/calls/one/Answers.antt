@@ -1,5 +1,4 @@
 use Rattle.building.specs.Calls.{one_call}
-use borrow.Author.Rules.{rules}
 use Rattle.build_calls.proofs.calls.one.Goals as goal
 
 pub returns : goal.returns

@@ -1,5 +1,4 @@
 use Rattle.building.specs.Calls.{operation_call}
-use borrow.Author.Rules.{rules}
 use Rattle.build_calls.proofs.calls.operation.Goals as goal
 
 pub returns : goal.returns

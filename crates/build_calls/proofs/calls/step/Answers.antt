@@ -1,4 +1,3 @@
-use borrow.Author.Rules.{rules}
 use Rattle.build_calls.proofs.calls.step.Goals as goal
 
 pub operate-requires : goal.operate-requires

@@ -1,5 +1,4 @@
 use Rattle.building.specs.Calls.{subtract_call}
-use borrow.Author.Rules.{rules}
 use Rattle.build_calls.proofs.calls.subtract.Goals as goal
 
 pub returns : goal.returns

@@ -1,5 +1,4 @@
 use Rattle.building.specs.Calls.{zero_call}
-use borrow.Author.Rules.{rules}
 use Rattle.build_calls.proofs.calls.zero.Goals as goal
 
 pub returns : goal.returns

@@ -1,9 +1,4 @@
-use Rattle.std.proofs.Common.{not}
-use mathlib.Core.Path.{sym, ap, ◌∙◌}
-use Rattle.layout.specs.Lists.{same_words}
-use Rattle.classes.specs.Table.{listed}
 use Rattle.build_calls.proofs.Wording.{loose_not, words_here}
-use borrow.Author.Rules.{rules}
 use Rattle.build_calls.proofs.leaves.has_words.Goals as goal
 
 pub returns-then-not-node : goal.returns-then-not-node

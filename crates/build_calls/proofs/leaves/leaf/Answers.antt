@@ -1,8 +1,6 @@
-use mathlib.Core.Path.{sym, ap, ◌∙◌}
 use native.Mathlib.Omega.{arith}
 use Rattle.layout.proofs.Valid.{valid_length}
 use Rattle.build_calls.proofs.Wording.{leaf_at, leaf_full, leaf_made}
-use borrow.Author.Rules.{rules}
 use Rattle.build_calls.proofs.leaves.leaf.Goals as goal
 
 pub bounds-m-1 : goal.bounds-m-1

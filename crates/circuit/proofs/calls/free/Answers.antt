@@ -5,7 +5,6 @@ use native.Mathlib.Omega.{arith}
 use Rattle.layout.specs.Calls.{free_call}
 use Rattle.layout.proofs.Valid.{valid_length, valid_room}
 use Rattle.layout.proofs.Refusals.{refuses, accepts, refusal_none, reading_no_circuit, reading_accepted, no_bad_id}
-use borrow.Author.Rules.{rules}
 use Rattle.circuit.proofs.calls.free.Goals as goal
 
 pub returns-then-not-is_circuit : goal.returns-then-not-is_circuit

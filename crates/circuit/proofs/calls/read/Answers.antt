@@ -4,7 +4,6 @@ use mathlib.Core.List.{[], ◌∷◌}
 use Rattle.layout.specs.Calls.{read_call}
 use Rattle.layout.proofs.Valid.{valid_length, valid_fits}
 use Rattle.layout.proofs.Refusals.{refuses, accepts, refusal_none, reading_no_circuit, reading_bad_id, reading_accepted, no_bad_id, bad_id_here, bad_id_next}
-use borrow.Author.Rules.{rules}
 use Rattle.circuit.proofs.calls.read.Goals as goal
 
 pub returns-then-not-is_circuit : goal.returns-then-not-is_circuit

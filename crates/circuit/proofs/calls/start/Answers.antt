@@ -2,7 +2,6 @@ use borrow.Author.Tests.{lt-ltb, le-ltb}
 use mathlib.Core.Path.{sym, ◌∙◌}
 use Rattle.layout.specs.Calls.{start_call}
 use Rattle.layout.proofs.Refusals.{refusal_here, refusal_next, refusal_none, outcome_refused, outcome_accepted}
-use borrow.Author.Rules.{rules}
 use Rattle.circuit.proofs.calls.start.Goals as goal
 
 pub returns-then-m-lt-HEADER : goal.returns-then-m-lt-HEADER

@@ -4,7 +4,6 @@ use mathlib.Core.List.{[]}
 use Rattle.layout.specs.Calls.{used_call}
 use Rattle.layout.proofs.Valid.{valid_length}
 use Rattle.layout.proofs.Refusals.{refuses, accepts, refusal_none, reading_no_circuit, reading_accepted, no_bad_id}
-use borrow.Author.Rules.{rules}
 use Rattle.circuit.proofs.calls.used.Goals as goal
 
 pub returns-then-not-is_circuit : goal.returns-then-not-is_circuit

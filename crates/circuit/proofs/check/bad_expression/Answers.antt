@@ -1,7 +1,6 @@
 use mathlib.Core.Path.{sym, ◌∙◌}
 use borrow.Author.Tests.{le-leb, lt-leb}
 use Rattle.layout.specs.NotCircuit.{bad_expression}
-use borrow.Author.Rules.{rules}
 use Rattle.circuit.proofs.check.bad_expression.Goals as goal
 
 pub returns-then-bad_words : goal.returns-then-bad_words

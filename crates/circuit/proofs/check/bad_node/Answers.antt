@@ -1,7 +1,6 @@
 use borrow.Author.Tests.{lt-ltb, le-ltb}
 use Rattle.layout.specs.NotCircuit.{bad_node}
 use native.Mathlib.Nat.{add-zero}
-use borrow.Author.Rules.{rules}
 use Rattle.circuit.proofs.check.bad_node.Goals as goal
 
 pub returns-then-m-at-gt8 : goal.returns-then-m-at-gt8

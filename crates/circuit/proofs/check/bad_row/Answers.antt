@@ -1,6 +1,5 @@
 use mathlib.Core.Path.{sym, ◌∙◌}
 use Rattle.layout.specs.NotCircuit.{bad_row}
-use borrow.Author.Rules.{rules}
 use Rattle.circuit.proofs.check.bad_row.Goals as goal
 
 pub returns-then-is_next : goal.returns-then-is_next

@@ -1,6 +1,5 @@
 use mathlib.Core.Path.{sym, ◌∙◌}
 use Rattle.layout.specs.NotCircuit.{bad_words}
-use borrow.Author.Rules.{rules}
 use Rattle.circuit.proofs.check.bad_words.Goals as goal
 
 pub returns-then-bad_word : goal.returns-then-bad_word

@@ -1,6 +1,5 @@
 use mathlib.Core.Path.{sym, ◌∙◌}
 use Rattle.circuit.proofs.Checks.{header_refused, nodes_refused, order_decides}
-use borrow.Author.Rules.{rules}
 use Rattle.circuit.proofs.check.check.Goals as goal
 
 pub returns-then-bad_header : goal.returns-then-bad_header

@@ -1,6 +1,5 @@
 use native.Mathlib.Omega.{arith}
 use Rattle.layout.specs.Words.{limit}
-use borrow.Author.Rules.{rules}
 use Rattle.circuit.proofs.check.limit_of.Goals as goal
 
 pub returns-then-m-lt-HEADER : goal.returns-then-m-lt-HEADER

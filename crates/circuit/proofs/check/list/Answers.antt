@@ -1,10 +1,7 @@
-use Prim.Native.Nat.{ℕ, ◌≤◌, ◌<◌, ◌-◌}
-use mathlib.Core.Path.{◌≡◌, refl}
+use mathlib.Core.Path.{refl}
 use native.Mathlib.Omega.{arith}
-use lib.ListN.{length, length-set}
-use borrow.Author.Rules.{rules}
+use lib.ListN.{length-set}
 use borrow.Author.Count.{below_none}
-use Rattle.circuit.specs.Rank.{at}
 use Rattle.circuit.specs.Walk.{Placed}
 use Rattle.circuit.proofs.Orders.{place_next}
 use Rattle.circuit.proofs.check.list.Goals as goal

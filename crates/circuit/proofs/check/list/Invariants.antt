@@ -1,12 +1,7 @@
 use Prim.Native.Nat.{ℕ, ◌≤◌, ◌<◌, ◌-◌}
-use mathlib.Core.Path.{◌≡◌, refl}
-use native.Mathlib.Omega.{arith}
-use lib.ListN.{length, length-set}
-use borrow.Author.Rules.{rules}
-use borrow.Author.Count.{below_none}
+use mathlib.Core.Path.{◌≡◌}
+use lib.ListN.{length}
 use Rattle.circuit.specs.Rank.{at}
-use Rattle.circuit.specs.Walk.{Placed}
-use Rattle.circuit.proofs.Orders.{place_next}
 use Rattle.circuit.proofs.check.list.Given as goal
 
 abbrev pub invariant-loop-i : goal.invariant-loop-i

@@ -1,5 +1,4 @@
 use Rattle.circuit.proofs.Checks.{known_walkable, known_order}
-use borrow.Author.Rules.{rules}
 use Rattle.circuit.proofs.check.order_of.Goals as goal
 
 pub sort-requires : goal.sort-requires

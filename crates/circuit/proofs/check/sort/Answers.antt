@@ -1,8 +1,6 @@
 use native.Mathlib.Omega.{arith}
-use borrow.Author.Tests.{not-true, not-false}
 use Rattle.layout.proofs.Valid.{header_room, header_top}
 use Rattle.circuit.proofs.Orders.{ranked_placing, unordered, ordered}
-use borrow.Author.Rules.{rules}
 use Rattle.circuit.proofs.check.sort.Goals as goal
 
 pub returns-then-not-walk : goal.returns-then-not-walk

@@ -1,6 +1,5 @@
 use mathlib.Core.Path.{ap, ◌∙◌}
 use Rattle.circuit.specs.Walk.{step_of}
-use borrow.Author.Rules.{rules}
 use Rattle.circuit.proofs.check.step_at.Goals as goal
 
 pub returns : goal.returns

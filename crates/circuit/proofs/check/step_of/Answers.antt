@@ -1,6 +1,5 @@
 use mathlib.Core.Path.{sym, ap}
 use Rattle.circuit.specs.Walk.{step_of}
-use borrow.Author.Rules.{rules}
 use Rattle.circuit.proofs.check.step_of.Goals as goal
 
 pub returns-in-Operation : goal.returns-in-Operation

@@ -1,8 +1,6 @@
-use Prim.Native.Nat.{◌-◌}
 use native.Mathlib.Omega.{arith}
-use borrow.Author.Rules.{rules}
 use Rattle.layout.proofs.Valid.{header_room, header_top}
-use Rattle.circuit.proofs.Visits.{able_kept, Ranking, ranking_start, ranking_visit, ranking_next, walk_fails, walk_done}
+use Rattle.circuit.proofs.Visits.{able_kept, ranking_start, ranking_visit, ranking_next, walk_fails, walk_done}
 use Rattle.circuit.proofs.check.walk.Goals as goal
 
 pub bounds-m-1 : goal.bounds-m-1

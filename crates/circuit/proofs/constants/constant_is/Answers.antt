@@ -1,4 +1,3 @@
-use borrow.Author.Rules.{rules}
 use Rattle.circuit.proofs.constants.constant_is.Goals as goal
 
 pub returns-in-Base : goal.returns-in-Base

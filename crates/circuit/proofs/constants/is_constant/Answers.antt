@@ -1,5 +1,4 @@
 use Rattle.layout.specs.Words.{is_constant}
-use borrow.Author.Rules.{rules}
 use Rattle.circuit.proofs.constants.is_constant.Goals as goal
 
 pub returns : goal.returns

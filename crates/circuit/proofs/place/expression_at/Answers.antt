@@ -1,6 +1,5 @@
 use native.Mathlib.Nat.{add-zero}
 use Rattle.layout.specs.Words.{node_at}
-use borrow.Author.Rules.{rules}
 use Rattle.circuit.proofs.place.expression_at.Goals as goal
 
 pub returns : goal.returns

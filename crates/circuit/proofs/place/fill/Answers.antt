@@ -1,7 +1,6 @@
 use native.Mathlib.Omega.{arith}
 use native.Mathlib.Numerals.{towards_suc}
 use lib.ListN.{length-set}
-use borrow.Author.Rules.{rules}
 use Rattle.circuit.proofs.place.fill.Goals as goal
 
 pub bounds-m-at-2 : goal.bounds-m-at-2

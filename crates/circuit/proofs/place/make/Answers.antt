@@ -1,7 +1,6 @@
 use native.Mathlib.Omega.{arith}
 use Rattle.layout.proofs.Valid.{place_fits, limit_top}
 use Rattle.circuit.proofs.Places.{made_by}
-use borrow.Author.Rules.{rules}
 use Rattle.circuit.proofs.place.make.Goals as goal
 
 pub bounds-m-1 : goal.bounds-m-1

@@ -1,5 +1,4 @@
 use Rattle.layout.specs.Words.{node_at}
-use borrow.Author.Rules.{rules}
 use Rattle.circuit.proofs.place.node_at.Goals as goal
 
 pub returns : goal.returns

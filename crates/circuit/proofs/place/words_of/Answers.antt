@@ -1,6 +1,5 @@
 use mathlib.Core.Path.{sym, ap}
 use Rattle.layout.specs.Words.{encode}
-use borrow.Author.Rules.{rules}
 use Rattle.circuit.proofs.place.words_of.Goals as goal
 
 pub returns-in-Base : goal.returns-in-Base

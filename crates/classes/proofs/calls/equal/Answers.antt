@@ -11,7 +11,6 @@ use Rattle.layout.proofs.Valid.{valid_length}
 use Rattle.layout.proofs.Refusals.{refuses, accepts, refusal_none, reading_no_circuit, reading_bad_id, reading_accepted, no_bad_id, bad_id_here, bad_id_next}
 use Rattle.classes.specs.Classes.{equal_call}
 use Rattle.classes.proofs.Finding.{number_same}
-use borrow.Author.Rules.{rules}
 use Rattle.classes.proofs.calls.equal.Goals as goal
 
 pub returns-then-not-check : goal.returns-then-not-check

@@ -1,5 +1,4 @@
 use Rattle.classes.proofs.Finding.{numbers_inside}
-use borrow.Author.Rules.{rules}
 use Rattle.classes.proofs.find.class_tables.Goals as goal
 
 pub list_registered-requires : goal.list_registered-requires

@@ -2,7 +2,6 @@ use mathlib.Core.Path.{◌∙◌}
 use native.Mathlib.Omega.{arith}
 use Rattle.classes.proofs.Firsts.{slot_none, slot_at}
 use Rattle.classes.proofs.Finding.{find_none, find_slot, find_inside}
-use borrow.Author.Rules.{rules}
 use Rattle.classes.proofs.find.find.Goals as goal
 
 pub returns-then-v-eq0 : goal.returns-then-v-eq0

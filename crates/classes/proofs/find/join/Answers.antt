@@ -1,7 +1,6 @@
 use native.Mathlib.Omega.{arith}
 use Rattle.layout.proofs.Valid.{valid_length}
 use Rattle.classes.proofs.Finding.{join_enterable, join_inside, join_all}
-use borrow.Author.Rules.{rules}
 use Rattle.classes.proofs.find.join.Goals as goal
 
 pub bounds-m-1 : goal.bounds-m-1

@@ -1,6 +1,5 @@
 use mathlib.Core.Path.{ap}
 use Rattle.layout.specs.declared.node.Node.{Node}
-use borrow.Author.Rules.{rules}
 use Rattle.classes.proofs.least.is_registered.Goals as goal
 
 pub returns : goal.returns

@@ -1,8 +1,6 @@
 use Rattle.classes.proofs.Firsts.{lower_inside}
-use Rattle.classes.proofs.Firsts.{Lowering, note_inside, lower_start, lower_some, lower_turn, lower_end}
-use Prim.Native.Nat.{◌-◌}
+use Rattle.classes.proofs.Firsts.{note_inside, lower_start, lower_some, lower_turn, lower_end}
 use native.Mathlib.Omega.{arith}
-use borrow.Author.Rules.{rules}
 use Rattle.classes.proofs.least.least_ids.Goals as goal
 
 pub loop-i-init : goal.loop-i-init

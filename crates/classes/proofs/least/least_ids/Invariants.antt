@@ -1,8 +1,5 @@
-use Rattle.classes.proofs.Firsts.{lower_inside}
-use Rattle.classes.proofs.Firsts.{Lowering, note_inside, lower_start, lower_some, lower_turn, lower_end}
+use Rattle.classes.proofs.Firsts.{Lowering}
 use Prim.Native.Nat.{◌-◌}
-use native.Mathlib.Omega.{arith}
-use borrow.Author.Rules.{rules}
 use Rattle.classes.proofs.least.least_ids.Given as goal
 
 abbrev pub invariant-loop-i : goal.invariant-loop-i

@@ -1,12 +1,8 @@
-use Prim.Native.Nat.{◌-◌}
 use mathlib.Core.Path.{sym, ap, ◌∙◌}
-use mathlib.Core.Logic.{⊎_elim}
 use native.Mathlib.Omega.{arith}
 use lib.ListN.{length}
-use borrow.Author.Rules.{rules}
-use Rattle.layout.specs.Words.{used, registered}
 use Rattle.layout.proofs.Valid.{valid_length, valid_fits}
-use Rattle.classes.proofs.Firsts.{Listing, note_inside, list_start, list_skip, list_more, list_end}
+use Rattle.classes.proofs.Firsts.{note_inside, list_start, list_skip, list_more, list_end}
 use Rattle.classes.proofs.least.list_registered.Goals as goal
 use Rattle.classes.proofs.least.list_registered.Goals.{then-is_registered, else-is_registered}
 
@@ -24,10 +20,10 @@ note-requires c = note_inside _ _ _ _ _ _ _ _ c.requires.1 c.blank.auto.s c.loop
 
 pub loop-i-preserved : goal.loop-i-preserved
 loop-i-preserved c = elim c.if-is_registered.branch [
-    then-is_registered w ↦
-        list_more _ _ _ _ _ _ c.loop-i.invariant c.loop-i-test.true (sym c.is_registered.ensures ∙ w.if-is_registered.true) (let a = c.requires.1.inside c.loop-i.i c.loop-i-test.true in let e = c.blank.auto.s in omega arith) _ _ w.number_at.ensures (ap length w.least-is ∙ w.note.auto.least) (w.least-is ∙ w.note.ensures)
+  | then-is_registered w ↦
+      list_more _ _ _ _ _ _ c.loop-i.invariant c.loop-i-test.true (sym c.is_registered.ensures ∙ w.if-is_registered.true) (let a = c.requires.1.inside c.loop-i.i c.loop-i-test.true in let e = c.blank.auto.s in omega arith) _ _ w.number_at.ensures (ap length w.least-is ∙ w.note.auto.least) (w.least-is ∙ w.note.ensures)
   | else-is_registered w ↦ rw w.least-is (list_skip _ _ _ _ _ _ c.loop-i.invariant c.loop-i-test.true (sym c.is_registered.ensures ∙ w.if-is_registered.false))
-  ]
+]
 
 pub returns : goal.returns
 returns c = list_end _ _ _ _ _ _ c.loop-i.invariant c.loop-i-test.false

@@ -1,6 +1,5 @@
 use borrow.Author.Tests.{eq-eqb, ne_eqb}
 use Rattle.classes.specs.Least.{noted}
-use borrow.Author.Rules.{rules}
 use Rattle.classes.proofs.least.note.Goals as goal
 
 pub returns-then-least-k-eq0 : goal.returns-then-least-k-eq0

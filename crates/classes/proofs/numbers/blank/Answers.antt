@@ -1,11 +1,10 @@
 use borrow.Author.Count.{below_none}
 use Rattle.classes.proofs.Firsts.{blank-more, blank_done}
 use mathlib.Core.Path.{refl, ◌∙◌}
-use Prim.Native.Nat.{ℕ, ◌-◌, ◌<◌, ◌≤◌}
+use Prim.Native.Nat.{ℕ}
 use mathlib.Core.Path.{◌≡◌}
 use native.Mathlib.Omega.{arith}
-use lib.ListN.{length, get_or, length-set}
-use borrow.Author.Rules.{rules}
+use lib.ListN.{get_or, length-set}
 use Rattle.classes.proofs.numbers.blank.Goals as goal
 
 pub loop-i-init : goal.loop-i-init

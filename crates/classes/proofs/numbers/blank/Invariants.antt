@@ -1,11 +1,6 @@
-use borrow.Author.Count.{below_none}
-use Rattle.classes.proofs.Firsts.{blank-more, blank_done}
-use mathlib.Core.Path.{refl, ◌∙◌}
 use Prim.Native.Nat.{ℕ, ◌-◌, ◌<◌, ◌≤◌}
 use mathlib.Core.Path.{◌≡◌}
-use native.Mathlib.Omega.{arith}
-use lib.ListN.{length, get_or, length-set}
-use borrow.Author.Rules.{rules}
+use lib.ListN.{length, get_or}
 use Rattle.classes.proofs.numbers.blank.Given as goal
 
 abbrev pub invariant-loop-i : goal.invariant-loop-i

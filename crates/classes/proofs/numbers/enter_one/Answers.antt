@@ -1,6 +1,5 @@
 use mathlib.Core.Path.{ap, ◌∙◌, refl}
 use Rattle.classes.specs.Numbers.{key_of}
-use borrow.Author.Rules.{rules}
 use Rattle.classes.proofs.numbers.enter_one.Goals as goal
 
 pub returns : goal.returns

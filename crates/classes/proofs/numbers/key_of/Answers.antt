@@ -1,7 +1,6 @@
 use mathlib.Core.Path.{ap, ◌∙◌}
 use Rattle.layout.specs.Words.{encode}
 use Rattle.classes.specs.Numbers.{key_of}
-use borrow.Author.Rules.{rules}
 use Rattle.classes.proofs.numbers.key_of.Goals as goal
 
 pub returns : goal.returns

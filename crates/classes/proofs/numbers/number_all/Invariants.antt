@@ -1,9 +1,6 @@
 use Prim.Native.Nat.{◌-◌}
-use native.Mathlib.Omega.{arith}
-use borrow.Author.Rules.{rules}
 use Rattle.layout.specs.Words.{used}
-use Rattle.layout.proofs.Valid.{valid_length}
-use Rattle.classes.proofs.Numbering.{Looping, loop-start, loop_enterable, loop-turn, loop-end}
+use Rattle.classes.proofs.Numbering.{Looping}
 use Rattle.classes.proofs.numbers.number_all.Given as goal
 
 abbrev pub invariant-loop-q : goal.invariant-loop-q

@@ -1,6 +1,5 @@
 use mathlib.Core.Path.{sym, ap}
 use Rattle.classes.specs.Numbers.{over}
-use borrow.Author.Rules.{rules}
 use Rattle.classes.proofs.numbers.over_numbers.Goals as goal
 
 pub returns-in-Base : goal.returns-in-Base

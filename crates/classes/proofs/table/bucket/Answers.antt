@@ -1,4 +1,3 @@
-use borrow.Author.Rules.{rules}
 use native.Mathlib.Omega.{arith}
 use Rattle.classes.specs.Table.{spread}
 use Rattle.classes.proofs.table.bucket.Goals as goal

@@ -3,7 +3,6 @@ use native.Mathlib.Numerals.{add-one}
 use lib.ListN.{length-set}
 use Rattle.classes.specs.Table.{listed}
 use Rattle.classes.proofs.Chains.{spread_lt, key_known, key_added}
-use borrow.Author.Rules.{rules}
 use Rattle.classes.proofs.table.intern.Goals as goal
 
 pub returns-then-r-ne0 : goal.returns-then-r-ne0

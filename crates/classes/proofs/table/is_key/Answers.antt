@@ -1,4 +1,3 @@
-use borrow.Author.Rules.{rules}
 use Rattle.classes.specs.Table.{entry}
 use Rattle.classes.proofs.Words.{word_differs, word_agrees, word_last}
 use Rattle.classes.proofs.table.is_key.Goals as goal

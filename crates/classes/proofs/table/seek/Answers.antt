@@ -1,7 +1,6 @@
 use native.Mathlib.Omega.{arith}
-use borrow.Author.Rules.{rules}
 use Rattle.classes.specs.Table.{listed}
-use Rattle.classes.proofs.Chains.{spread_lt, Going, go_start, go_falls, go_on, go_hit, go_end}
+use Rattle.classes.proofs.Chains.{spread_lt, go_start, go_falls, go_on, go_hit, go_end}
 use mathlib.Core.Path.{sym, ◌∙◌}
 use Rattle.classes.proofs.table.seek.Goals as goal
 

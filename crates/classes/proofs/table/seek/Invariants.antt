@@ -1,8 +1,5 @@
-use native.Mathlib.Omega.{arith}
-use borrow.Author.Rules.{rules}
 use Rattle.classes.specs.Table.{listed}
-use Rattle.classes.proofs.Chains.{spread_lt, Going, go_start, go_falls, go_on, go_hit, go_end}
-use mathlib.Core.Path.{sym, ◌∙◌}
+use Rattle.classes.proofs.Chains.{Going}
 use Rattle.classes.proofs.table.seek.Given as goal
 
 abbrev pub invariant-loop-v : goal.invariant-loop-v

@@ -1,7 +1,6 @@
 use Rattle.classes.proofs.Chains.{key_stored}
 use lib.ListN.{length-set}
 use native.Mathlib.Omega.{arith}
-use borrow.Author.Rules.{rules}
 use Rattle.classes.proofs.table.write_key.Goals as goal
 
 pub bounds-table-at-2 : goal.bounds-table-at-2

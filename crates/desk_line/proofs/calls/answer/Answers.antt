@@ -4,7 +4,6 @@ use lib.ListN.{take}
 use lib.Seq.{length-take-le}
 use Rattle.framing.specs.States.{lent}
 use Rattle.desk_line.proofs.Lines.{called_challenges, called_row, called_frame, row_kind_lem}
-use borrow.Author.Rules.{rules}
 use Rattle.desk_line.proofs.calls.answer.Goals as goal
 
 pub returns-then-kind-eq1 : goal.returns-then-kind-eq1

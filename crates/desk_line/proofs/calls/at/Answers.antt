@@ -1,5 +1,4 @@
 use Rattle.desk_line.proofs.Lines.{beyond_line}
-use borrow.Author.Rules.{rules}
 use Rattle.desk_line.proofs.calls.at.Goals as goal
 
 pub returns-then-line-i : goal.returns-then-line-i

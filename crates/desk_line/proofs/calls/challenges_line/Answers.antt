@@ -3,7 +3,6 @@ use lib.ListN.{take}
 use Rattle.frame.proofs.Writing.{byte_behind}
 use Rattle.desk.specs.Desks.{desk}
 use Rattle.desk_line.proofs.Lines.{challenges_answered}
-use borrow.Author.Rules.{rules}
 use Rattle.desk_line.proofs.calls.challenges_line.Goals as goal
 
 pub put-written-requires : goal.put-written-requires

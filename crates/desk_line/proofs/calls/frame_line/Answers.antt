@@ -1,5 +1,4 @@
 use Rattle.desk_line.proofs.Lines.{frame_answered}
-use borrow.Author.Rules.{rules}
 use Rattle.desk_line.proofs.calls.frame_line.Goals as goal
 
 pub returns : goal.returns

@@ -1,5 +1,4 @@
 use Rattle.desk_line.proofs.Lines.{after_lower}
-use borrow.Author.Rules.{rules}
 use Rattle.desk_line.proofs.calls.latest_after.Goals as goal
 
 pub returns-in-Lower : goal.returns-in-Lower

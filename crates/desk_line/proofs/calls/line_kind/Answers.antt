@@ -1,6 +1,5 @@
 use mathlib.Core.Path.{sym, ◌∙◌}
 use Rattle.desk_line.proofs.Lines.{kind_unstarted, kind_other_first, kind_challenges, kind_row, kind_other}
-use borrow.Author.Rules.{rules}
 use Rattle.desk_line.proofs.calls.line_kind.Goals as goal
 
 pub returns-then-kind_of-eq0 : goal.returns-then-kind_of-eq0

@@ -1,5 +1,4 @@
 use Rattle.desk_line.proofs.Lines.{lowered_refused, lowered_accepted}
-use borrow.Author.Rules.{rules}
 use Rattle.desk_line.proofs.calls.lowered.Goals as goal
 
 pub returns-then-n-ne0 : goal.returns-then-n-ne0

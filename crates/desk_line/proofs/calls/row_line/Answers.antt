@@ -3,7 +3,6 @@ use Rattle.framing.specs.States.{lent}
 use Rattle.desk.specs.Desks.{desk}
 use Rattle.desk_line.proofs.Fills.{row_behind}
 use Rattle.desk_line.proofs.Lines.{row_line_answered}
-use borrow.Author.Rules.{rules}
 use Rattle.desk_line.proofs.calls.row_line.Goals as goal
 
 pub put-requires : goal.put-requires

@@ -3,7 +3,6 @@ use mathlib.Core.Path.{refl}
 use Rattle.stream.proofs.Feeding.{line_answered}
 use Rattle.desk_line.specs.Feeds.{fill_program}
 use Rattle.desk_line.proofs.Feeding.{desk_is, written_is, places_are, few_written, deskable_after}
-use borrow.Author.Rules.{rules}
 use Rattle.desk_line.proofs.feed.answer_line.Goals as goal
 
 pub answer-t-requires : goal.answer-t-requires

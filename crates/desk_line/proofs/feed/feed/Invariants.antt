@@ -1,10 +1,7 @@
 use Prim.Native.Nat.{◌-◌, ◌≤◌}
-use mathlib.Core.Path.{refl, ◌∙◌}
-use native.Mathlib.Omega.{arith}
 use lib.ListN.{length, take}
 use Rattle.framing.specs.States.{lent}
 use Rattle.stream.specs.Stream.{stream, fed, Advanced}
-use Rattle.stream.proofs.Feeding.{none_fed, none_written, more_fed, some_taken, rest_length}
 use Rattle.desk.specs.Desks.{desk}
 use Rattle.desk_line.specs.Feeds.{fill_program, Deskable}
 use Rattle.desk_line.proofs.Feeding.{DeskLengths}

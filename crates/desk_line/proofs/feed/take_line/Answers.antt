@@ -4,7 +4,6 @@ use lib.Seq.{length-take-le}
 use borrow.Author.Tests.{not-true, not-false}
 use Rattle.stream.proofs.Feeding.{line_open, line_ended, line_taken}
 use Rattle.desk_line.specs.Feeds.{fill_program}
-use borrow.Author.Rules.{rules}
 use Rattle.desk_line.proofs.feed.take_line.Goals as goal
 
 pub gather-g-requires : goal.gather-g-requires

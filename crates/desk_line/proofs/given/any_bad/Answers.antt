@@ -1,8 +1,5 @@
-use Prim.Native.Nat.{◌-◌, ◌≤◌}
 use native.Mathlib.Omega.{arith}
-use borrow.Author.Rules.{rules}
-use Rattle.framing.specs.Digits.{bytes_of}
-use Rattle.desk_line.proofs.Challenges.{Left, left_all, bad_here, left_less, left_none}
+use Rattle.desk_line.proofs.Challenges.{left_all, bad_here, left_less, left_none}
 use Rattle.desk_line.proofs.given.any_bad.Goals as goal
 
 pub loop-k-init : goal.loop-k-init

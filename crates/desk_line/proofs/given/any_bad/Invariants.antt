@@ -1,8 +1,6 @@
 use Prim.Native.Nat.{◌-◌, ◌≤◌}
-use native.Mathlib.Omega.{arith}
-use borrow.Author.Rules.{rules}
 use Rattle.framing.specs.Digits.{bytes_of}
-use Rattle.desk_line.proofs.Challenges.{Left, left_all, bad_here, left_less, left_none}
+use Rattle.desk_line.proofs.Challenges.{Left}
 use Rattle.desk_line.proofs.given.any_bad.Given as goal
 
 abbrev pub invariant-loop-k : goal.invariant-loop-k

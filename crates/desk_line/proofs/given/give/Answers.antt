@@ -1,11 +1,9 @@
 use mathlib.Core.Path.{sym, ◌∙◌}
 use native.Mathlib.Omega.{arith}
-use borrow.Author.Tests.{not-true, not-false}
 use lib.ListN.{take}
 use Rattle.desk_line.proofs.Cells.{stored_front}
 use Rattle.desk.specs.Desks.{desk}
 use Rattle.desk_line.proofs.Challenges.{given_few, no_challenges, bad_challenges, challenges_given}
-use borrow.Author.Rules.{rules}
 use Rattle.desk_line.proofs.given.give.Goals as goal
 
 pub returns-then-not-is_challenges : goal.returns-then-not-is_challenges

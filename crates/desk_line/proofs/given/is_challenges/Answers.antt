@@ -1,6 +1,4 @@
-use borrow.Author.Tests.{not-true, not-false}
 use Rattle.desk_line.proofs.Challenges.{given_no_digits, given_other_length, given_counted}
-use borrow.Author.Rules.{rules}
 use Rattle.desk_line.proofs.given.is_challenges.Goals as goal
 
 pub returns-then-not-all_digits : goal.returns-then-not-all_digits

@@ -3,7 +3,6 @@ use mathlib.Core.Path.{sym, ◌∙◌}
 use native.Mathlib.Omega.{arith}
 use lib.Seq.{length-take-le}
 use Rattle.desk_line.proofs.Fills.{within_two, front_filled}
-use borrow.Author.Rules.{rules}
 use Rattle.desk_line.proofs.row.fill_tables.Goals as goal
 
 pub slice_bounds-fill-end : goal.slice_bounds-fill-end

@@ -1,5 +1,4 @@
 use Rattle.desk_line.proofs.Widths.{two_of, one_of}
-use borrow.Author.Rules.{rules}
 use Rattle.desk_line.proofs.row.in_rows.Goals as goal
 
 pub returns-then-rows-eq2 : goal.returns-then-rows-eq2

@@ -1,9 +1,7 @@
 use Prim.Native.Nat.{ℕ, ◌*◌}
 use mathlib.Core.Path.{ap, ◌∙◌}
 use native.Mathlib.Omega.{arith}
-use borrow.Author.Tests.{not-true, not-false}
 use Rattle.desk_line.proofs.Widths.{at_most_two, rows_no_digits, rows_counted}
-use borrow.Author.Rules.{rules}
 use Rattle.desk_line.proofs.row.is_rows.Goals as goal
 
 pub returns-then-not-all_digits : goal.returns-then-not-all_digits

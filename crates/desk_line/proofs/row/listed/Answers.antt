@@ -1,6 +1,5 @@
 use native.Mathlib.Omega.{arith}
 use Rattle.desk_line.proofs.Widths.{whole_list}
-use borrow.Author.Rules.{rules}
 use Rattle.desk_line.proofs.row.listed.Goals as goal
 
 pub returns : goal.returns

@@ -1,6 +1,5 @@
 use native.Mathlib.Omega.{arith}
 use Rattle.desk_line.proofs.Fills.{as_kind, its_narrow, row_refused, row_answered}
-use borrow.Author.Rules.{rules}
 use Rattle.desk_line.proofs.row.put_answer.Goals as goal
 
 pub returns-then-n-ne0 : goal.returns-then-n-ne0

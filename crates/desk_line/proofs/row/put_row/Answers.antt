@@ -2,7 +2,6 @@ use Prim.Native.Nat.{◌*◌}
 use native.Mathlib.Omega.{arith}
 use Rattle.frame.proofs.Writing.{byte_behind}
 use Rattle.desk_line.proofs.Fills.{part_is, part_short, words_put_behind, row_refused_put, row_put}
-use borrow.Author.Rules.{rules}
 use Rattle.desk_line.proofs.row.put_row.Goals as goal
 
 pub returns-then-n-ne0 : goal.returns-then-n-ne0

@@ -1,4 +1,3 @@
-use borrow.Author.Rules.{rules}
 use Rattle.desk_line.proofs.row.read_tables.Goals as goal
 
 pub returns : goal.returns

@@ -1,7 +1,6 @@
 use mathlib.Core.Path.{sym, ◌∙◌}
 use borrow.Author.Tests.{not-true, not-false}
 use Rattle.desk_line.proofs.Widths.{narrow, not_lowered_lem, refused_wide, refused_rows, no_refusal}
-use borrow.Author.Rules.{rules}
 use Rattle.desk_line.proofs.row.row_refusal.Goals as goal
 
 pub returns-then-not-latest : goal.returns-then-not-latest

@@ -1,5 +1,4 @@
 use Rattle.desk_line.proofs.Widths.{wide_main, wide_aux}
-use borrow.Author.Rules.{rules}
 use Rattle.desk_line.proofs.row.too_wide.Goals as goal
 
 pub returns-then-too_many : goal.returns-then-too_many

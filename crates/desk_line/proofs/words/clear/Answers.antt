@@ -1,8 +1,7 @@
-use Prim.Native.Nat.{ℕ, ◌-◌, ◌≤◌}
-use mathlib.Core.Path.{◌≡◌, refl}
+use Prim.Native.Nat.{ℕ}
+use mathlib.Core.Path.{refl}
 use native.Mathlib.Omega.{arith}
-use lib.ListN.{length, replicate, length-set}
-use Rattle.desk_line.specs.Reading.{Stored}
+use lib.ListN.{replicate, length-set}
 use Rattle.desk_line.proofs.Cells.{none_stored, zero_stored, all_stored}
 use Rattle.desk_line.proofs.words.clear.Goals as goal
 

@@ -1,9 +1,7 @@
-use Prim.Native.Nat.{ℕ, ◌-◌, ◌≤◌}
-use mathlib.Core.Path.{◌≡◌, refl}
-use native.Mathlib.Omega.{arith}
-use lib.ListN.{length, replicate, length-set}
+use Prim.Native.Nat.{◌-◌, ◌≤◌}
+use mathlib.Core.Path.{◌≡◌}
+use lib.ListN.{length, replicate}
 use Rattle.desk_line.specs.Reading.{Stored}
-use Rattle.desk_line.proofs.Cells.{none_stored, zero_stored, all_stored}
 use Rattle.desk_line.proofs.words.clear.Given as goal
 
 abbrev pub invariant-loop-k : goal.invariant-loop-k

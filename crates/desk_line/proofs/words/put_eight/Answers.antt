@@ -1,6 +1,5 @@
 use native.Mathlib.Omega.{arith}
 use Rattle.desk_line.proofs.Texts.{four_behind, eight_put}
-use borrow.Author.Rules.{rules}
 use Rattle.desk_line.proofs.words.put_eight.Goals as goal
 
 pub put_four-requires : goal.put_four-requires

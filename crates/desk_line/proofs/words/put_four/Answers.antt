@@ -1,7 +1,6 @@
 use native.Mathlib.Omega.{arith}
 use Rattle.frame.proofs.Writing.{two_behind}
 use Rattle.desk_line.proofs.Texts.{four_put}
-use borrow.Author.Rules.{rules}
 use Rattle.desk_line.proofs.words.put_four.Goals as goal
 
 pub put_two-requires : goal.put_two-requires

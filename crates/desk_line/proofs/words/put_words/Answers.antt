@@ -1,9 +1,6 @@
-use Prim.Native.Nat.{◌-◌, ◌≤◌}
-use mathlib.Core.Path.{◌≡◌, refl, ◌∙◌}
+use mathlib.Core.Path.{refl, ◌∙◌}
 use native.Mathlib.Omega.{arith}
-use lib.ListN.{length, take}
-use Rattle.frame.specs.Puts.{Put}
-use Rattle.desk_line.proofs.Texts.{words_text, words_unwritten, words_behind, words_one_more, words_all}
+use Rattle.desk_line.proofs.Texts.{words_unwritten, words_behind, words_one_more, words_all}
 use Rattle.desk_line.proofs.words.put_words.Goals as goal
 
 pub loop-k-init : goal.loop-k-init

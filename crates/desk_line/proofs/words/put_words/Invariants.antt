@@ -1,9 +1,8 @@
 use Prim.Native.Nat.{◌-◌, ◌≤◌}
-use mathlib.Core.Path.{◌≡◌, refl, ◌∙◌}
-use native.Mathlib.Omega.{arith}
+use mathlib.Core.Path.{◌≡◌}
 use lib.ListN.{length, take}
 use Rattle.frame.specs.Puts.{Put}
-use Rattle.desk_line.proofs.Texts.{words_text, words_unwritten, words_behind, words_one_more, words_all}
+use Rattle.desk_line.proofs.Texts.{words_text}
 use Rattle.desk_line.proofs.words.put_words.Given as goal
 
 abbrev pub invariant-loop-k : goal.invariant-loop-k

@@ -1,6 +1,5 @@
 use mathlib.Core.Path.{refl}
 use native.Mathlib.Omega.{arith}
-use borrow.Author.Rules.{rules}
 use Rattle.desk_line.proofs.Cells.{row_stored_lem}
 use Rattle.desk_line.proofs.words.read_row.Goals as goal
 

@@ -1,5 +1,4 @@
 use native.Mathlib.Omega.{arith}
-use borrow.Author.Rules.{rules}
 use Rattle.desk_line.proofs.Cells.{rows_stored_one, rows_stored_two}
 use Rattle.desk_line.proofs.words.read_rows.Goals as goal
 

@@ -1,11 +1,9 @@
-use Prim.Native.Nat.{ℕ, ◌-◌, ◌≤◌}
-use mathlib.Core.Path.{◌≡◌, refl}
-use native.Mathlib.Omega.{arith}
-use lib.ListN.{length, length-set}
+use Prim.Native.Nat.{◌-◌, ◌≤◌}
+use mathlib.Core.Path.{◌≡◌}
+use lib.ListN.{length}
 use Rattle.framing.specs.Digits.{bytes_of}
 use Rattle.desk.specs.Words.{words_at}
 use Rattle.desk_line.specs.Reading.{Stored}
-use Rattle.desk_line.proofs.Cells.{words_none, word_stored, all_stored}
 use Rattle.desk_line.proofs.words.read_words.Given as goal
 
 abbrev pub invariant-loop-k : goal.invariant-loop-k

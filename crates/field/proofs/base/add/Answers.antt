@@ -1,5 +1,4 @@
 -- `field::base::add` meets its contract: operands may be reduced first. Assumes nothing.
-use Rattle.std.proofs.Common.{rules}
 use Rattle.field.proofs.Words.{add_reduced}
 use Rattle.field.proofs.base.add.Goals as goal
 

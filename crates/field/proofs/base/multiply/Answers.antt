@@ -1,5 +1,5 @@
 -- `field::base::multiply` meets its contract, from what its two calls ensure. Assumes nothing.
-use Rattle.std.proofs.Common.{ℕ, ◌%◌, ap, ◌∙◌, rules}
+use Rattle.std.proofs.Common.{ℕ, ◌%◌, ap, ◌∙◌}
 use Rattle.arithmetic.specs.Base.{p, multiply}
 use Rattle.field.proofs.base.multiply.Goals as goal
 

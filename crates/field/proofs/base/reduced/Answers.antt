@@ -1,5 +1,5 @@
 -- `field::base::reduced` meets its contract: what its two calls ensure, put together, is one law. Assumes nothing.
-use Rattle.std.proofs.Common.{◌∙◌, rules}
+use Rattle.std.proofs.Common.{◌∙◌}
 use Rattle.field.proofs.Words.{folds}
 use Rattle.field.proofs.base.reduced.Goals as goal
 

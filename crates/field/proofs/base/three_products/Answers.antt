@@ -1,5 +1,5 @@
 -- `field::base::three_products` meets its contract: a sum of products may be reduced once. Assumes nothing.
-use Rattle.std.proofs.Common.{ℕ, ◌+◌, ◌*◌, ◌%◌, ap, ◌∙◌, rules}
+use Rattle.std.proofs.Common.{ℕ, ◌+◌, ◌*◌, ◌%◌, ap, ◌∙◌}
 use Rattle.arithmetic.specs.Base.{p, multiply}
 use Rattle.field.proofs.Words.{three_reduced}
 use Rattle.field.proofs.base.three_products.Goals as goal

@@ -1,5 +1,5 @@
 -- `field::base::two_products` meets its contract: a sum of products may be reduced once. Assumes nothing.
-use Rattle.std.proofs.Common.{ℕ, ◌+◌, ◌*◌, ◌%◌, sym, ap, ◌∙◌, rules}
+use Rattle.std.proofs.Common.{ℕ, ◌+◌, ◌*◌, ◌%◌, sym, ap, ◌∙◌}
 use Rattle.arithmetic.specs.Base.{p, add, multiply}
 use Rattle.field.proofs.Words.{add_reduced}
 use Rattle.field.proofs.base.two_products.Goals as goal

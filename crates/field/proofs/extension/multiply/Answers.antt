@@ -1,5 +1,5 @@
 -- `field::extension::multiply` meets its contract: the coefficients are remainders, and the fold of them is one law. Assumes nothing.
-use Rattle.std.proofs.Common.{ap, ◌∙◌, arith, rules}
+use Rattle.std.proofs.Common.{ap, ◌∙◌, arith}
 use Rattle.arithmetic.specs.Extension.{folded, times}
 use Rattle.field.proofs.Folds.{below, folds}
 use Rattle.field.proofs.extension.multiply.Goals as goal

@@ -1,6 +1,4 @@
 -- `field::extension::scale` meets its contract: a lifted number times a triple is that number times each word. Assumes nothing.
-use Rattle.std.proofs.Common.{sym, ◌∙◌, rules}
-use Rattle.arithmetic.specs.Extension.{triple}
 use Rattle.arithmetic.proofs.Algebra.{lift_by}
 use Rattle.field.proofs.extension.scale.Goals as goal
 

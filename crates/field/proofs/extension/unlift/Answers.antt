@@ -1,6 +1,5 @@
 -- `field::extension::unlift` meets its contract, by the test that it branches on. Assumes nothing.
 use Rattle.arithmetic.specs.Unlift.{unlift}
-use Rattle.std.proofs.Common.{rules}
 use Rattle.field.proofs.extension.unlift.Goals as goal
 
 pub returns-then-unlifts : goal.returns-then-unlifts

@@ -1,5 +1,4 @@
 use Rattle.fillable.proofs.Operands.{operands_of}
-use borrow.Author.Rules.{rules}
 use Rattle.fillable.proofs.form.column_plus.Goals as goal
 
 pub column_sum-requires : goal.column_sum-requires

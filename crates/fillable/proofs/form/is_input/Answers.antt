@@ -2,7 +2,6 @@ use Rattle.layout.specs.Lists.{same_words}
 use Rattle.layout.specs.Words.{encode}
 use Rattle.filling.specs.Constraints.{is_input}
 use mathlib.Core.Path.{ap, ap₂, ◌∙◌}
-use borrow.Author.Rules.{rules}
 use Rattle.fillable.proofs.form.is_input.Goals as goal
 
 pub returns : goal.returns

@@ -1,5 +1,4 @@
 use Rattle.fillable.proofs.Operands.{operands_of}
-use borrow.Author.Rules.{rules}
 use Rattle.fillable.proofs.form.minus_times.Goals as goal
 
 pub minus_product-requires : goal.minus_product-requires

@@ -4,7 +4,6 @@ use Rattle.layout.specs.NotCircuit.{bad_word}
 use lib.Seq.{length-take-le}
 use Rattle.fillable.specs.Beside.{bad_beside}
 use mathlib.Core.Path.{sym, ap, ◌∙◌}
-use borrow.Author.Rules.{rules}
 use Rattle.fillable.proofs.given.bad_beside.Goals as goal
 
 pub slice_bounds-any_bad-end : goal.slice_bounds-any_bad-end

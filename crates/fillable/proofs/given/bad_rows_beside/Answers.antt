@@ -3,11 +3,10 @@ use lib.ListN.{length, take, drop, length-take, length-drop}
 use Rattle.fillable.specs.Beside.{bad_beside}
 use borrow.Author.Rules.{rules}
 use Rattle.fillable.proofs.Turns.{row_within, row_lent, rest_lent, Beside, table_here, table_rest}
-use Rattle.layout.specs.Lists.{any, up_to}
+use Rattle.layout.specs.Lists.{any}
 use Rattle.layout.proofs.Tests.{any_start, any_next}
 use mathlib.Core.Path.{◌≡◌, sym, ap, ◌∙◌}
-use mathlib.Core.Bool.{false}
-use Prim.Native.Nat.{ℕ, ◌+◌, ◌-◌, ◌*◌, ◌≤◌}
+use Prim.Native.Nat.{ℕ, ◌+◌, ◌-◌, ◌*◌}
 use native.Mathlib.Omega.{arith}
 use Rattle.fillable.proofs.given.bad_rows_beside.Goals as goal
 

@@ -1,14 +1,9 @@
-use Rattle.layout.specs.NotCircuit.{bad_word}
-use lib.ListN.{length, take, drop, length-take, length-drop}
-use Rattle.fillable.specs.Beside.{bad_beside}
-use borrow.Author.Rules.{rules}
-use Rattle.fillable.proofs.Turns.{row_within, row_lent, rest_lent, Beside, table_here, table_rest}
+use lib.ListN.{length}
+use Rattle.fillable.proofs.Turns.{Beside}
 use Rattle.layout.specs.Lists.{any, up_to}
-use Rattle.layout.proofs.Tests.{any_start, any_next}
-use mathlib.Core.Path.{◌≡◌, sym, ap, ◌∙◌}
+use mathlib.Core.Path.{◌≡◌}
 use mathlib.Core.Bool.{false}
-use Prim.Native.Nat.{ℕ, ◌+◌, ◌-◌, ◌*◌, ◌≤◌}
-use native.Mathlib.Omega.{arith}
+use Prim.Native.Nat.{◌-◌, ◌*◌, ◌≤◌}
 use Rattle.fillable.proofs.given.bad_rows_beside.Given as goal
 
 abbrev pub invariant-loop-r : goal.invariant-loop-r

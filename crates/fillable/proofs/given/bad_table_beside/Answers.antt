@@ -1,7 +1,6 @@
 use Rattle.fillable.proofs.Turns.{rows_within, table_empty}
 use lib.ListN.{length}
 use Prim.Native.Nat.{◌/◌}
-use borrow.Author.Rules.{rules}
 use Rattle.fillable.proofs.given.bad_table_beside.Goals as goal
 
 pub returns-then-table-eq0 : goal.returns-then-table-eq0

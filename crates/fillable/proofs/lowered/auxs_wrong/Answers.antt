@@ -1,10 +1,8 @@
 use mathlib.Core.Path.{refl, sym, ap, ◌∙◌}
-use Rattle.fillable.proofs.Listings.{aux_test, auxs_itemwise, aux_own, Going, going_start, going_room, going_next, going_wrong, going_done}
+use Rattle.fillable.proofs.Listings.{aux_test, auxs_itemwise, aux_own, going_start, going_room, going_next, going_wrong, going_done}
 use Rattle.fillable.specs.Forms.{form_of}
 use Rattle.paths.proofs.Walks.{roots_below}
 use Rattle.layout.specs.declared.node.Position.TheVariants.{Aux}
-use lib.ListN.{length}
-use Prim.Native.Nat.{◌-◌}
 use native.Mathlib.Omega.{arith}
 use borrow.Author.Rules.{rules}
 use Rattle.fillable.proofs.lowered.auxs_wrong.Goals as goal

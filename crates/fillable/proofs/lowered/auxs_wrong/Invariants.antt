@@ -1,12 +1,7 @@
-use mathlib.Core.Path.{refl, sym, ap, ◌∙◌}
-use Rattle.fillable.proofs.Listings.{aux_test, auxs_itemwise, aux_own, Going, going_start, going_room, going_next, going_wrong, going_done}
-use Rattle.fillable.specs.Forms.{form_of}
-use Rattle.paths.proofs.Walks.{roots_below}
+use Rattle.fillable.proofs.Listings.{aux_test, Going}
 use Rattle.layout.specs.declared.node.Position.TheVariants.{Aux}
 use lib.ListN.{length}
 use Prim.Native.Nat.{◌-◌}
-use native.Mathlib.Omega.{arith}
-use borrow.Author.Rules.{rules}
 use Rattle.fillable.proofs.lowered.auxs_wrong.Given as goal
 
 abbrev pub invariant-loop-k : goal.invariant-loop-k

@@ -1,6 +1,5 @@
 use Rattle.fillable.proofs.BothLists.{lowerable_ordered, lowerable_based, lowerable_reached, main_listable, main_refuses, aux_listable, both_tested}
 use native.Mathlib.Omega.{arith}
-use borrow.Author.Rules.{rules}
 use Rattle.fillable.proofs.lowered.not_lowered.Goals as goal
 
 pub reaches-requires : goal.reaches-requires

@@ -5,7 +5,6 @@ use Rattle.filling.specs.Constraints.{reads_unfilled}
 use Rattle.paths.proofs.Counts.{valid_top}
 use mathlib.Core.Path.{sym, ap, ◌∙◌}
 use native.Mathlib.Omega.{arith}
-use borrow.Author.Rules.{rules}
 use Rattle.fillable.proofs.lowered.ready.Goals as goal
 
 pub returns-in_default : goal.returns-in_default

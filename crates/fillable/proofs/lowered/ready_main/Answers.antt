@@ -7,7 +7,6 @@ use Rattle.paths.proofs.Counts.{valid_top}
 use mathlib.Core.Bool.{not}
 use mathlib.Core.Path.{sym, ap, ◌∙◌}
 use native.Mathlib.Omega.{arith}
-use borrow.Author.Rules.{rules}
 use Rattle.fillable.proofs.lowered.ready_main.Goals as goal
 
 pub returns-in_default : goal.returns-in_default

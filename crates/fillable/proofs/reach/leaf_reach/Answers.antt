@@ -1,5 +1,4 @@
 use Rattle.fillable.specs.Reaching.{reach_entry}
-use borrow.Author.Rules.{rules}
 use Rattle.fillable.proofs.reach.leaf_reach.Goals as goal
 
 pub input_reach-requires : goal.input_reach-requires

@@ -1,13 +1,7 @@
 use Rattle.fillable.specs.Reaching.{reach_to}
-use Rattle.read.proofs.Along.{Along, along_joinable, along_next, along_done}
-use Rattle.read.proofs.Tables.{filling_start}
-use Rattle.paths.proofs.Counts.{valid_top}
-use Rattle.layout.proofs.Valid.{valid_length}
+use Rattle.read.proofs.Along.{Along}
 use Rattle.layout.specs.Words.{used}
-use mathlib.Core.Path.{refl}
 use Prim.Native.Nat.{◌-◌}
-use native.Mathlib.Omega.{arith}
-use borrow.Author.Rules.{rules}
 use Rattle.fillable.proofs.reach.reaches.Given as goal
 
 abbrev pub invariant-loop-q : goal.invariant-loop-q

@@ -5,7 +5,6 @@ use Rattle.fillable.specs.Columned.{columns_in}
 use borrow.Author.Tests.{lt-ltb, le-ltb}
 use mathlib.Core.Path.{refl, sym, ◌∙◌}
 use native.Mathlib.Omega.{arith}
-use borrow.Author.Rules.{rules}
 use Rattle.fillable.proofs.rows.bad_rows.Goals as goal
 
 pub bounds-m-0 : goal.bounds-m-0

@@ -1,7 +1,6 @@
 use native.Mathlib.Nat.{div-div-eq-div-mul}
 use mathlib.Core.Path.{sym}
 use lib.ListN.{length}
-use borrow.Author.Rules.{rules}
 use Rattle.fillable.proofs.rows.columns_in.Goals as goal
 
 pub returns : goal.returns

@@ -3,7 +3,6 @@ use Rattle.fillable.proofs.Fitting.{thirds_rest}
 use borrow.Author.Tests.{eq-eqb, ne_eqb}
 use native.Mathlib.Omega.{arith}
 use lib.ListN.{length}
-use borrow.Author.Rules.{rules}
 use Rattle.fillable.proofs.rows.is_uneven.Goals as goal
 
 pub returns-then-main-n-ne0 : goal.returns-then-main-n-ne0

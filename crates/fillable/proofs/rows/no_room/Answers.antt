@@ -1,5 +1,4 @@
 use mathlib.Core.Path.{sym, ◌∙◌}
-use borrow.Author.Rules.{rules}
 use Rattle.fillable.proofs.rows.no_room.Goals as goal
 
 pub returns-then-is_narrow : goal.returns-then-is_narrow

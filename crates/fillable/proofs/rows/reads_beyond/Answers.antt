@@ -2,7 +2,6 @@ use Rattle.fillable.proofs.Tested.{counted_beyond}
 use Rattle.paths.proofs.Counts.{valid_top}
 use mathlib.Core.Path.{◌∙◌}
 use native.Mathlib.Omega.{arith}
-use borrow.Author.Rules.{rules}
 use Rattle.fillable.proofs.rows.reads_beyond.Goals as goal
 
 pub any_beyond-requires : goal.any_beyond-requires

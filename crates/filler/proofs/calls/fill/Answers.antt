@@ -1,7 +1,6 @@
 use mathlib.Core.Path.{◌∙◌}
 use Rattle.filler.proofs.Outcomes.{told_circuit, told_one}
 use Rattle.filler.proofs.Outcomes.{short_circuit}
-use borrow.Author.Rules.{rules}
 use Rattle.filler.proofs.calls.fill.Goals as goal
 
 pub returns-then-m-lt-HEADER : goal.returns-then-m-lt-HEADER

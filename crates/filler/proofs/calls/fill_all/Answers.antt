@@ -2,7 +2,6 @@ use native.Mathlib.Omega.{arith}
 use mathlib.Core.Path.{sym}
 use Rattle.layout.proofs.Valid.{valid_length}
 use Rattle.filler.proofs.Eachs.{each_none}
-use borrow.Author.Rules.{rules}
 use Rattle.filler.proofs.calls.fill_all.Goals as goal
 
 pub returns-then-s-eq0 : goal.returns-then-s-eq0

@@ -1,6 +1,5 @@
 use native.Mathlib.Omega.{arith}
-use borrow.Author.Rules.{rules}
-use Rattle.filler.proofs.Eachs.{Filling, filling_start, filling_row, filling_next, filling_done}
+use Rattle.filler.proofs.Eachs.{filling_start, filling_row, filling_next, filling_done}
 use Rattle.filler.proofs.calls.fill_each.Goals as goal
 
 pub bounds-m-0 : goal.bounds-m-0

@@ -1,6 +1,4 @@
-use native.Mathlib.Omega.{arith}
-use borrow.Author.Rules.{rules}
-use Rattle.filler.proofs.Eachs.{Filling, filling_start, filling_row, filling_next, filling_done}
+use Rattle.filler.proofs.Eachs.{Filling}
 use Rattle.filler.proofs.calls.fill_each.Given as goal
 
 abbrev pub invariant-loop-r : goal.invariant-loop-r

@@ -1,11 +1,9 @@
 use Rattle.std.proofs.Common.{ap, not}
 use native.Mathlib.Omega.{arith}
 use mathlib.Core.Path.{sym, ◌∙◌}
-use borrow.Author.Tests.{not-false}
 use Rattle.layout.proofs.Refusals.{refuses, accepts}
 use Rattle.layout.proofs.Valid.{valid_length}
 use Rattle.filler.proofs.Outcomes.{told_circuit, told_main_ids, told_aux_ids, told_table, told_words}
-use borrow.Author.Rules.{rules}
 use Rattle.filler.proofs.calls.fill_rows.Goals as goal
 
 pub returns-then-not-check : goal.returns-then-not-check

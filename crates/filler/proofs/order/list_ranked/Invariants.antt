@@ -1,12 +1,7 @@
 use Prim.Native.Nat.{ℕ, ◌≤◌, ◌<◌, ◌-◌}
-use mathlib.Core.Path.{◌≡◌, refl}
-use mathlib.Core.Logic.{⊎_elim}
-use native.Mathlib.Omega.{arith}
-use lib.ListN.{length, length-set}
-use borrow.Author.Rules.{rules}
+use mathlib.Core.Path.{◌≡◌}
+use lib.ListN.{length}
 use Rattle.circuit.specs.Rank.{at}
-use Rattle.filler.specs.Ranking.{ByRank}
-use Rattle.filler.proofs.Ranks.{by_rank_next, by_rank_skip}
 use Rattle.filler.proofs.order.list_ranked.Given as goal
 
 abbrev pub invariant-loop-i : goal.invariant-loop-i

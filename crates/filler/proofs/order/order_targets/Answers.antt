@@ -1,5 +1,4 @@
 use native.Mathlib.Omega.{arith}
-use borrow.Author.Rules.{rules}
 use Rattle.layout.proofs.Valid.{valid_header, valid_length, header_top}
 use Rattle.filler.proofs.Ranks.{reached_apart, reached_staged}
 use Rattle.filler.proofs.order.order_targets.Goals as goal

@@ -1,9 +1,6 @@
-use Prim.Native.Nat.{◌-◌, ◌/◌}
 use native.Mathlib.Omega.{arith}
-use lib.ListN.{length}
-use borrow.Author.Rules.{rules}
 use Rattle.layout.proofs.Valid.{valid_header, valid_length, header_top}
-use Rattle.filler.proofs.Ranks.{Reaching, reaching_start, reaching_visit, reaching_next, reaching_done}
+use Rattle.filler.proofs.Ranks.{reaching_start, reaching_visit, reaching_next, reaching_done}
 use Rattle.filler.proofs.order.rank_targets.Goals as goal
 
 pub bounds-m-1 : goal.bounds-m-1

@@ -1,6 +1,5 @@
 use native.Mathlib.Omega.{arith}
 use borrow.Author.Tests.{lt-ltb, le-ltb}
-use borrow.Author.Rules.{rules}
 use Rattle.filler.proofs.plan.input_source.Goals as goal
 
 pub returns-then-c-s : goal.returns-then-c-s

@@ -1,7 +1,6 @@
 use native.Mathlib.Omega.{arith}
 use borrow.Author.Tests.{eq-eqb, ne_eqb}
 use Rattle.filler.proofs.Instructions.{op_small}
-use borrow.Author.Rules.{rules}
 use Rattle.filler.proofs.plan.join.Goals as goal
 
 pub overflow_add-straight : goal.overflow_add-straight

@@ -1,8 +1,5 @@
 use Prim.Native.Nat.{◌-◌}
-use mathlib.Core.Path.{◌≡◌}
-use native.Mathlib.Omega.{arith}
-use Rattle.filler.proofs.Plans.{Planning, planning_start, planning_room, planning_decides, planning_next}
-use Rattle.paths.proofs.Counts.{valid_top}
+use Rattle.filler.proofs.Plans.{Planning}
 use Rattle.filler.proofs.plan.make_plan.Given as goal
 
 abbrev pub invariant-loop-q : goal.invariant-loop-q

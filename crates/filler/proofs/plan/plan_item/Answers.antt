@@ -1,5 +1,4 @@
 use borrow.Author.Tests.{eq-eqb, ne_eqb}
-use borrow.Author.Rules.{rules}
 use Rattle.filler.proofs.plan.plan_item.Goals as goal
 
 pub returns-then-bases-node : goal.returns-then-bases-node

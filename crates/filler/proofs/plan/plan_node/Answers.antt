@@ -2,7 +2,6 @@ use native.Mathlib.Omega.{arith}
 use Rattle.layout.proofs.Valid.{valid_fits}
 use Rattle.filler.specs.Planning.{planned}
 use Rattle.filler.proofs.Instructions.{column_small, source_join, source_known}
-use borrow.Author.Rules.{rules}
 use Rattle.filler.proofs.plan.plan_node.Goals as goal
 
 pub expression_at-requires : goal.expression_at-requires

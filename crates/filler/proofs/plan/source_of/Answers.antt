@@ -1,4 +1,3 @@
-use borrow.Author.Rules.{rules}
 use Rattle.filler.proofs.plan.source_of.Goals as goal
 
 pub input_source-requires : goal.input_source-requires

@@ -1,12 +1,10 @@
-use Prim.Native.Nat.{◌-◌}
 use mathlib.Core.Path.{ap, ◌∙◌}
 use native.Mathlib.Omega.{arith}
-use Rattle.layout.specs.Words.{used}
 use Rattle.layout.proofs.Valid.{valid_length, valid_fits}
 use Rattle.layout.specs.declared.node.Expression.{Expression}
 use Rattle.paths.proofs.Counts.{valid_top}
 use Rattle.filler.specs.Planning.{fixed_one}
-use Rattle.filler.proofs.Fixes.{Fixing, fixing_start, fixing_room, fixing_next, fixing_done}
+use Rattle.filler.proofs.Fixes.{fixing_start, fixing_room, fixing_next, fixing_done}
 use Rattle.filler.proofs.prepare.fix.Goals as goal
 
 pub bounds-m-1 : goal.bounds-m-1

@@ -1,6 +1,5 @@
 use mathlib.Core.Path.{refl}
 use Rattle.filler.proofs.Fixes.{fixed_triple}
-use borrow.Author.Rules.{rules}
 use Rattle.filler.proofs.prepare.fix_node.Goals as goal
 
 pub returns-in-Base : goal.returns-in-Base

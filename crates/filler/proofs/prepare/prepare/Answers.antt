@@ -2,7 +2,6 @@ use native.Mathlib.Omega.{arith}
 use Rattle.paths.proofs.Counts.{valid_top}
 use Rattle.filler.proofs.Targeting.{passed_targeted}
 use Rattle.filler.proofs.Prepares.{prepared}
-use borrow.Author.Rules.{rules}
 use Rattle.filler.proofs.prepare.prepare.Goals as goal
 
 pub order_targets-done-requires : goal.order_targets-done-requires

@@ -1,6 +1,5 @@
-use Prim.Native.Nat.{◌-◌}
 use native.Mathlib.Omega.{arith}
-use Rattle.filler.proofs.Fixes.{Resolving, resolving_start, resolving_next, resolving_done}
+use Rattle.filler.proofs.Fixes.{resolving_start, resolving_next, resolving_done}
 use Rattle.filler.proofs.prepare.resolve.Goals as goal
 
 pub loop-k-init : goal.loop-k-init

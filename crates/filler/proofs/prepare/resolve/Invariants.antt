@@ -1,6 +1,5 @@
 use Prim.Native.Nat.{◌-◌}
-use native.Mathlib.Omega.{arith}
-use Rattle.filler.proofs.Fixes.{Resolving, resolving_start, resolving_next, resolving_done}
+use Rattle.filler.proofs.Fixes.{Resolving}
 use Rattle.filler.proofs.prepare.resolve.Given as goal
 
 abbrev pub invariant-loop-k : goal.invariant-loop-k

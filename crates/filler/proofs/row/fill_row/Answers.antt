@@ -1,4 +1,3 @@
-use borrow.Author.Rules.{rules}
 use Rattle.filler.proofs.Rowings.{row_storing, row_storing_wide}
 use Rattle.filler.proofs.row.fill_row.Goals as goal
 

@@ -1,5 +1,4 @@
 use Rattle.filler.proofs.Rowings.{wide-requires, stored_aux}
-use borrow.Author.Rules.{rules}
 use Rattle.filler.proofs.row.store_aux.Goals as goal
 
 pub store_triples-requires : goal.store_triples-requires

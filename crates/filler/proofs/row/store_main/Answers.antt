@@ -1,5 +1,4 @@
 use Rattle.filler.proofs.Rowings.{stored_main}
-use borrow.Author.Rules.{rules}
 use Rattle.filler.proofs.row.store_main.Goals as goal
 
 pub returns : goal.returns

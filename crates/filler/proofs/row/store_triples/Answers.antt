@@ -1,9 +1,7 @@
-use Prim.Native.Nat.{◌-◌, ◌≤◌}
 use mathlib.Core.Path.{◌≡◌, ap, ap₂, ◌∙◌}
 use native.Mathlib.Omega.{arith}
 use lib.ListN.{length}
-use lib.Seq.{sets, length-sets}
-use Rattle.circuit.specs.Rank.{at}
+use lib.Seq.{length-sets}
 use Rattle.read.specs.Values.{put_triple}
 use Rattle.filler.specs.Rowing.{triples_for}
 use Rattle.filler.proofs.Stores.{triples_none, triples_next}

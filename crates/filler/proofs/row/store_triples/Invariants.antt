@@ -1,12 +1,7 @@
 use Prim.Native.Nat.{◌-◌, ◌≤◌}
-use mathlib.Core.Path.{◌≡◌, ap, ap₂, ◌∙◌}
-use native.Mathlib.Omega.{arith}
-use lib.ListN.{length}
-use lib.Seq.{sets, length-sets}
-use Rattle.circuit.specs.Rank.{at}
-use Rattle.read.specs.Values.{put_triple}
+use mathlib.Core.Path.{◌≡◌}
+use lib.Seq.{sets}
 use Rattle.filler.specs.Rowing.{triples_for}
-use Rattle.filler.proofs.Stores.{triples_none, triples_next}
 use Rattle.filler.proofs.row.store_triples.Given as goal
 
 abbrev pub invariant-loop-k : goal.invariant-loop-k

@@ -1,8 +1,7 @@
-use Prim.Native.Nat.{◌-◌, ◌≤◌}
 use mathlib.Core.Path.{◌≡◌, ap, ◌∙◌}
 use native.Mathlib.Omega.{arith}
 use lib.ListN.{length, set}
-use lib.Seq.{sets, length-sets}
+use lib.Seq.{length-sets}
 use Rattle.circuit.specs.Rank.{at}
 use Rattle.filler.specs.Rowing.{words_for}
 use Rattle.filler.proofs.Stores.{words_none, words_next}

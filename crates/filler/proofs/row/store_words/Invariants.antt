@@ -1,11 +1,7 @@
 use Prim.Native.Nat.{◌-◌, ◌≤◌}
-use mathlib.Core.Path.{◌≡◌, ap, ◌∙◌}
-use native.Mathlib.Omega.{arith}
-use lib.ListN.{length, set}
-use lib.Seq.{sets, length-sets}
-use Rattle.circuit.specs.Rank.{at}
+use mathlib.Core.Path.{◌≡◌}
+use lib.Seq.{sets}
 use Rattle.filler.specs.Rowing.{words_for}
-use Rattle.filler.proofs.Stores.{words_none, words_next}
 use Rattle.filler.proofs.row.store_words.Given as goal
 
 abbrev pub invariant-loop-k : goal.invariant-loop-k

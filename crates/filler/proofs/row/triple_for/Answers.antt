@@ -1,5 +1,4 @@
 use borrow.Author.Tests.{eq-eqb, ne_eqb}
-use borrow.Author.Rules.{rules}
 use Rattle.filler.proofs.row.triple_for.Goals as goal
 
 pub returns-then-bases-place-eq1 : goal.returns-then-bases-place-eq1

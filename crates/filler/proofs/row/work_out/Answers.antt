@@ -1,7 +1,6 @@
 use Prim.Native.Nat.{◌*◌}
 use native.Mathlib.Omega.{arith}
 use Rattle.filler.proofs.Rowings.{row_runnable, row_alone, cut}
-use borrow.Author.Rules.{rules}
 use Rattle.filler.proofs.row.work_out.Goals as goal
 
 pub overflow_mul-wide : goal.overflow_mul-wide

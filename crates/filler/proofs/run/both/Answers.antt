@@ -1,5 +1,4 @@
 use borrow.Author.Tests.{eq-eqb, ne_eqb}
-use borrow.Author.Rules.{rules}
 use Rattle.filler.proofs.run.both.Goals as goal
 
 pub returns-then-op-eq4 : goal.returns-then-op-eq4

@@ -2,7 +2,6 @@ use borrow.Author.Tests.{eq-eqb, ne_eqb}
 use mathlib.Core.Path.{◌∙◌, ap}
 use Rattle.arithmetic.specs.declared.Triple.{Triple}
 use Rattle.arithmetic.specs.Extension.{plus}
-use borrow.Author.Rules.{rules}
 use Rattle.filler.proofs.run.mixed.Goals as goal
 
 pub returns-then-op-eq6 : goal.returns-then-op-eq6

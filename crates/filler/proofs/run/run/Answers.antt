@@ -1,6 +1,5 @@
-use Prim.Native.Nat.{◌-◌}
 use native.Mathlib.Omega.{arith}
-use Rattle.filler.proofs.Runs.{Running, running_start, running_lengths, running_done, running_doable, running_next}
+use Rattle.filler.proofs.Runs.{running_start, running_lengths, running_done, running_doable, running_next}
 use Rattle.filler.proofs.run.run.Goals as goal
 
 pub loop-q-init : goal.loop-q-init

@@ -1,6 +1,5 @@
 use Prim.Native.Nat.{◌-◌}
-use native.Mathlib.Omega.{arith}
-use Rattle.filler.proofs.Runs.{Running, running_start, running_lengths, running_done, running_doable, running_next}
+use Rattle.filler.proofs.Runs.{Running}
 use Rattle.filler.proofs.run.run.Given as goal
 
 abbrev pub invariant-loop-q : goal.invariant-loop-q

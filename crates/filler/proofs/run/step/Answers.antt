@@ -1,6 +1,5 @@
 use native.Mathlib.Omega.{arith}
 use Rattle.filler.proofs.Runs.{word_done, triple_done}
-use borrow.Author.Rules.{rules}
 use Rattle.filler.proofs.run.step.Goals as goal
 
 pub word_of-w-requires : goal.word_of-w-requires

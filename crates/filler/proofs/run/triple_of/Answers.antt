@@ -2,7 +2,6 @@ use native.Mathlib.Omega.{arith}
 use mathlib.Core.Path.{◌∙◌, ap, ap₂}
 use borrow.Author.Tests.{eq-eqb, ne_eqb, lt-ltb, le-ltb}
 use Rattle.filler.specs.Running.{both, mixed}
-use borrow.Author.Rules.{rules}
 use Rattle.filler.proofs.run.triple_of.Goals as goal
 
 pub entry_at-requires : goal.entry_at-requires

@@ -1,6 +1,5 @@
 use native.Mathlib.Omega.{arith}
 use borrow.Author.Tests.{eq-eqb, ne_eqb}
-use borrow.Author.Rules.{rules}
 use Rattle.filler.proofs.run.word_of.Goals as goal
 
 pub offset_bounds-main-left : goal.offset_bounds-main-left

@@ -1,5 +1,4 @@
 use Rattle.frame.proofs.Responding.{framed_by}
-use borrow.Author.Rules.{rules}
 use Rattle.frame.proofs.calls.frame.Goals as goal
 
 pub returns : goal.returns

@@ -1,12 +1,8 @@
 use Prim.Native.Nat.{◌-◌, ◌≤◌}
-use mathlib.Core.Path.{◌≡◌, refl, sym, ◌∙◌}
-use native.Mathlib.Omega.{arith}
+use mathlib.Core.Path.{◌≡◌}
 use lib.ListN.{length, drop}
-use borrow.Author.Rules.{rules}
-use borrow.Author.Tests.{not-true, not-false}
 use Rattle.layout.specs.Lists.{all}
 use Rattle.framing.specs.Digits.{is_digit}
-use Rattle.frame.proofs.Hexadecimal.{all_here, all_next, all_done}
 use Rattle.frame.proofs.digits.all_digits.Given as goal
 
 abbrev pub invariant-loop-i : goal.invariant-loop-i

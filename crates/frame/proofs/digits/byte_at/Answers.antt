@@ -1,4 +1,4 @@
-use mathlib.Core.Path.{sym, ap, ◌∙◌}
+use mathlib.Core.Path.{sym}
 use native.Mathlib.Omega.{arith}
 use Rattle.frame.proofs.Hexadecimal.{digit_small, byte_none, byte_here}
 use borrow.Author.Rules.{rules}

@@ -1,5 +1,4 @@
 use Rattle.frame.proofs.Hexadecimal.{low_character, high_character}
-use borrow.Author.Rules.{rules}
 use Rattle.frame.proofs.digits.character.Goals as goal
 
 pub returns-then-d-lt10 : goal.returns-then-d-lt10

@@ -1,8 +1,6 @@
 use mathlib.Core.Path.{sym, ◌∙◌}
 use native.Mathlib.Omega.{arith}
-use borrow.Author.Tests.{not-true, not-false}
 use Rattle.frame.proofs.Hexadecimal.{digit_ordered, no_digit, decimal_digit, letter_digit}
-use borrow.Author.Rules.{rules}
 use Rattle.frame.proofs.digits.digit.Goals as goal
 
 pub returns-then-not-is_digit : goal.returns-then-not-is_digit

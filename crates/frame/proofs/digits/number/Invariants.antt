@@ -1,9 +1,6 @@
-use Prim.Native.Nat.{ℕ, ◌-◌, ◌≤◌}
-use mathlib.Core.Path.{◌≡◌, refl, sym, ap, ◌∙◌}
-use native.Mathlib.Omega.{arith}
-use borrow.Author.Rules.{rules}
+use Prim.Native.Nat.{◌-◌, ◌≤◌}
+use mathlib.Core.Path.{◌≡◌}
 use Rattle.framing.specs.Digits.{bytes_of, number_at}
-use Rattle.frame.proofs.Hexadecimal.{byte_small, number-none, number_small, number-again, number_done}
 use Rattle.frame.proofs.digits.number.Given as goal
 
 abbrev pub invariant-loop-k : goal.invariant-loop-k

@@ -1,5 +1,4 @@
-use Rattle.frame.proofs.Writing.{put_one, put_out}
-use borrow.Author.Rules.{rules}
+use Rattle.frame.proofs.Writing.{put_out}
 use Rattle.frame.proofs.reply.put.Goals as goal
 
 pub returns-then-answer-at : goal.returns-then-answer-at

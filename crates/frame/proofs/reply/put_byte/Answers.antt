@@ -1,6 +1,5 @@
 use Rattle.frame.proofs.Writing.{put_then}
 use Rattle.framing.specs.Digits.{hexadecimal}
-use borrow.Author.Rules.{rules}
 use Rattle.frame.proofs.reply.put_byte.Goals as goal
 
 pub returns : goal.returns

@@ -1,9 +1,6 @@
-use Prim.Native.Nat.{◌-◌, ◌≤◌}
-use mathlib.Core.Path.{◌≡◌, refl, sym, ap, ◌∙◌}
+use mathlib.Core.Path.{refl, ◌∙◌}
 use native.Mathlib.Omega.{arith}
-use lib.ListN.{length, take}
-use Rattle.frame.specs.Puts.{Put}
-use Rattle.frame.proofs.Writing.{ids_text, ids_none, ids_behind, ids_more, ids_counted, ids_all}
+use Rattle.frame.proofs.Writing.{ids_none, ids_behind, ids_more, ids_counted, ids_all}
 use Rattle.frame.proofs.reply.put_ids.Goals as goal
 
 pub loop-k-init : goal.loop-k-init

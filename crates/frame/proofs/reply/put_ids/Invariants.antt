@@ -1,9 +1,8 @@
 use Prim.Native.Nat.{◌-◌, ◌≤◌}
-use mathlib.Core.Path.{◌≡◌, refl, sym, ap, ◌∙◌}
-use native.Mathlib.Omega.{arith}
+use mathlib.Core.Path.{◌≡◌}
 use lib.ListN.{length, take}
 use Rattle.frame.specs.Puts.{Put}
-use Rattle.frame.proofs.Writing.{ids_text, ids_none, ids_behind, ids_more, ids_counted, ids_all}
+use Rattle.frame.proofs.Writing.{ids_text}
 use Rattle.frame.proofs.reply.put_ids.Given as goal
 
 abbrev pub invariant-loop-k : goal.invariant-loop-k

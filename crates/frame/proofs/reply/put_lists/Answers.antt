@@ -1,6 +1,5 @@
 use native.Mathlib.Omega.{arith}
 use Rattle.frame.proofs.Writing.{two_behind, ids_most, lists_put}
-use borrow.Author.Rules.{rules}
 use Rattle.frame.proofs.reply.put_lists.Goals as goal
 
 pub put_two-both-requires : goal.put_two-both-requires

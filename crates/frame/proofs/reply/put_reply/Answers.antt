@@ -1,6 +1,5 @@
 use native.Mathlib.Omega.{arith}
 use Rattle.frame.proofs.Writing.{byte_behind, bare_put, id_put, id_refused, counts_put, counts_refused}
-use borrow.Author.Rules.{rules}
 use Rattle.frame.proofs.reply.put_reply.Goals as goal
 
 pub put_two-requires : goal.put_two-requires

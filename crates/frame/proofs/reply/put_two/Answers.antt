@@ -1,7 +1,6 @@
 use native.Mathlib.Omega.{arith}
 use Rattle.frame.proofs.Writing.{put_then}
 use Rattle.framing.specs.Digits.{hexadecimal, two}
-use borrow.Author.Rules.{rules}
 use Rattle.frame.proofs.reply.put_two.Goals as goal
 
 pub put_byte-requires : goal.put_byte-requires

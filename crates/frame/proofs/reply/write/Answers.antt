@@ -1,6 +1,5 @@
 use native.Mathlib.Omega.{arith}
 use Rattle.frame.proofs.Writing.{put_then, reply_most}
-use borrow.Author.Rules.{rules}
 use Rattle.frame.proofs.reply.write.Goals as goal
 
 pub put-requires : goal.put-requires

@@ -1,7 +1,6 @@
 use native.Mathlib.Omega.{arith}
 use Rattle.framing.specs.Requests.{form_by}
 use Rattle.frame.proofs.Reading.{form_picked, form_other}
-use borrow.Author.Rules.{rules}
 use Rattle.frame.proofs.request.form_of.Goals as goal
 
 pub returns-in-0 : goal.returns-in-0

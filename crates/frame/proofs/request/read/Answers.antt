@@ -1,8 +1,6 @@
 use mathlib.Core.Path.{sym, ◌∙◌}
 use native.Mathlib.Omega.{arith}
-use borrow.Author.Tests.{not-true, not-false}
 use Rattle.frame.proofs.Reading.{no_digits, other_length, its_length}
-use borrow.Author.Rules.{rules}
 use Rattle.frame.proofs.request.read.Goals as goal
 
 pub returns-then-not-all_digits : goal.returns-then-not-all_digits

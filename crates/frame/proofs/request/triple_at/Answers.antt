@@ -1,4 +1,3 @@
-use borrow.Author.Rules.{rules}
 use Rattle.frame.proofs.request.triple_at.Goals as goal
 
 pub returns : goal.returns

@@ -1,7 +1,6 @@
 use mathlib.Core.Path.{refl}
 use Rattle.framing.specs.Answers.{answered}
 use Rattle.frame.proofs.Responding.{id_told, answers_to}
-use borrow.Author.Rules.{rules}
 use Rattle.frame.proofs.respond.answer_to.Goals as goal
 
 pub returns-in-Start : goal.returns-in-Start

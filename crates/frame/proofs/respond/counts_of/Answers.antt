@@ -1,6 +1,5 @@
 use mathlib.Core.Path.{sym, ap}
 use Rattle.framing.specs.Answers.{counts_reply}
-use borrow.Author.Rules.{rules}
 use Rattle.frame.proofs.respond.counts_of.Goals as goal
 
 pub returns-in-Counts : goal.returns-in-Counts

@@ -1,6 +1,5 @@
 use mathlib.Core.Path.{sym, ap}
 use Rattle.framing.specs.Answers.{id_reply}
-use borrow.Author.Rules.{rules}
 use Rattle.frame.proofs.respond.id_of.Goals as goal
 
 pub returns-in-Id : goal.returns-in-Id

@@ -1,7 +1,6 @@
 use mathlib.Core.Path.{ap, ◌∙◌}
 use mathlib.Core.Bool.{not}
 use Rattle.frame.proofs.Responding.{in_time_first, in_time_after}
-use borrow.Author.Rules.{rules}
 use Rattle.frame.proofs.respond.in_time.Goals as goal
 
 pub returns-then-kind_of-eq0 : goal.returns-then-kind_of-eq0

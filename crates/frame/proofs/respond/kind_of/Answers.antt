@@ -1,7 +1,6 @@
 use native.Mathlib.Omega.{arith}
 use mathlib.Core.Path.{sym}
 use lib.ListN.{get_or-eq_default}
-use borrow.Author.Rules.{rules}
 use Rattle.frame.proofs.respond.kind_of.Goals as goal
 
 pub returns-then-m-eq0 : goal.returns-then-m-eq0

@@ -1,8 +1,6 @@
-use mathlib.Core.Path.{◌∙◌}
 use native.Mathlib.Omega.{arith}
 use Rattle.framing.specs.States.{root_room, root_count}
 use Rattle.frame.proofs.Responding.{lower_told, lower_empty, roots_part, roots_back}
-use borrow.Author.Rules.{rules}
 use Rattle.frame.proofs.respond.lower_frame.Goals as goal
 
 pub returns-then-roots-eq0 : goal.returns-then-roots-eq0

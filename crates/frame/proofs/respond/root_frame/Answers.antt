@@ -1,5 +1,4 @@
 use Rattle.frame.proofs.Responding.{root_bad, root_full, root_added, room_left}
-use borrow.Author.Rules.{rules}
 use Rattle.frame.proofs.respond.root_frame.Goals as goal
 
 pub returns-then-used_of-i : goal.returns-then-used_of-i

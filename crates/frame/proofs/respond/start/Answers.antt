@@ -1,6 +1,4 @@
-use mathlib.Core.Path.{sym, ap, ◌∙◌}
 use Rattle.frame.proofs.Responding.{start_cleared, start_refused}
-use borrow.Author.Rules.{rules}
 use Rattle.frame.proofs.respond.start.Goals as goal
 
 pub returns-then-number-eq0 : goal.returns-then-number-eq0

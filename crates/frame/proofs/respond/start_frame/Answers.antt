@@ -1,6 +1,5 @@
 use Rattle.framing.specs.Answers.{start_answer}
 use Rattle.frame.proofs.Responding.{start_picked, start_other}
-use borrow.Author.Rules.{rules}
 use Rattle.frame.proofs.respond.start_frame.Goals as goal
 
 pub returns-in-1 : goal.returns-in-1

@@ -1,7 +1,6 @@
 use native.Mathlib.Omega.{arith}
 use mathlib.Core.Path.{sym}
 use lib.ListN.{get_or-eq_default}
-use borrow.Author.Rules.{rules}
 use Rattle.frame.proofs.respond.used_of.Goals as goal
 
 pub returns-then-m-lt2 : goal.returns-then-m-lt2

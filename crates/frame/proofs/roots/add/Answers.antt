@@ -1,7 +1,6 @@
 use native.Mathlib.Omega.{arith}
 use Rattle.framing.specs.States.{root_room, root_count, with_root}
 use lib.ListN.{length-set}
-use borrow.Author.Rules.{rules}
 use Rattle.frame.proofs.roots.add.Goals as goal
 
 pub overflow_add-roots : goal.overflow_add-roots

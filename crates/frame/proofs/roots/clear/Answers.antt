@@ -1,7 +1,6 @@
 use native.Mathlib.Omega.{arith}
 use mathlib.Core.Path.{sym}
 use lib.Seq.{set_out}
-use borrow.Author.Rules.{rules}
 use Rattle.frame.proofs.roots.clear.Goals as goal
 
 pub returns-then-roots-eq0 : goal.returns-then-roots-eq0

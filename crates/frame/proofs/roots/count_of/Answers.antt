@@ -1,6 +1,5 @@
 use native.Mathlib.Omega.{arith}
 use Rattle.framing.specs.States.{root_room, root_count}
-use borrow.Author.Rules.{rules}
 use Rattle.frame.proofs.roots.count_of.Goals as goal
 
 pub returns-then-room-eq0 : goal.returns-then-room-eq0

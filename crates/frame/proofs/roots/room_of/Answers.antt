@@ -1,6 +1,5 @@
 use native.Mathlib.Omega.{arith}
 use Rattle.framing.specs.States.{root_room}
-use borrow.Author.Rules.{rules}
 use Rattle.frame.proofs.roots.room_of.Goals as goal
 
 pub returns-then-roots-eq0 : goal.returns-then-roots-eq0

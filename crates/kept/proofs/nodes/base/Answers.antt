@@ -2,7 +2,6 @@ use mathlib.Core.Path.{sym, ◌∙◌}
 use Rattle.layout.proofs.Refusals.{refusal_here, refusal_next}
 use Rattle.building.specs.Calls.{base_call}
 use Rattle.kept.proofs.Asking.{kept_refused, kept_call, base_good}
-use borrow.Author.Rules.{rules}
 use Rattle.kept.proofs.nodes.base.Goals as goal
 
 pub returns-then-bad_word : goal.returns-then-bad_word

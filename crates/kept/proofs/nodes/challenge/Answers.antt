@@ -2,7 +2,6 @@ use mathlib.Core.Path.{sym, ◌∙◌}
 use Rattle.layout.proofs.Refusals.{refusal_here, refusal_next}
 use Rattle.building.specs.Calls.{challenge_call}
 use Rattle.kept.proofs.Asking.{kept_refused, kept_call, challenge_good}
-use borrow.Author.Rules.{rules}
 use Rattle.kept.proofs.nodes.challenge.Goals as goal
 
 pub returns-then-bad_index : goal.returns-then-bad_index

@@ -2,7 +2,6 @@ use mathlib.Core.Path.{sym, ◌∙◌}
 use Rattle.layout.proofs.Refusals.{refusal_here, refusal_next}
 use Rattle.building.specs.Calls.{extension_call}
 use Rattle.kept.proofs.Asking.{kept_refused, kept_call, words_good}
-use borrow.Author.Rules.{rules}
 use Rattle.kept.proofs.nodes.extension.Goals as goal
 
 pub returns-then-bad_words : goal.returns-then-bad_words

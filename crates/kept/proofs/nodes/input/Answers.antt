@@ -4,7 +4,6 @@ use Rattle.layout.proofs.Refusals.{refusal_here, refusal_next}
 use Rattle.layout.proofs.Valid.{valid_length}
 use Rattle.building.specs.Calls.{input_call}
 use Rattle.kept.proofs.Asking.{kept_refused, kept_call, input_good}
-use borrow.Author.Rules.{rules}
 use Rattle.kept.proofs.nodes.input.Goals as goal
 
 pub bad_row-requires : goal.bad_row-requires

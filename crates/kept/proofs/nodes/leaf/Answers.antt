@@ -1,5 +1,4 @@
 use Rattle.kept.proofs.Asking.{kept_ends}
-use borrow.Author.Rules.{rules}
 use Rattle.kept.proofs.nodes.leaf.Goals as goal
 
 pub returns : goal.returns

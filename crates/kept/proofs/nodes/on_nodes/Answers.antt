@@ -1,6 +1,5 @@
 use Rattle.layout.proofs.Valid.{valid_length}
 use Rattle.kept.proofs.Asking.{left_refused, right_refused, both_ends}
-use borrow.Author.Rules.{rules}
 use Rattle.kept.proofs.nodes.on_nodes.Goals as goal
 
 pub bounds-m-1 : goal.bounds-m-1

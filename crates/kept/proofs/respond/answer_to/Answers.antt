@@ -3,7 +3,6 @@ use Rattle.building.specs.Calls.{operation_call, subtract_call}
 use Rattle.framing.specs.Answers.{answered}
 use Rattle.kept.proofs.Asking.{buildable_keeps}
 use Rattle.kept.proofs.Keeping.{startable, begun, id_kept, negate_kept, answers_kept}
-use borrow.Author.Rules.{rules}
 use Rattle.kept.proofs.respond.answer_to.Goals as goal
 
 pub start-requires : goal.start-requires

@@ -1,6 +1,5 @@
 use Rattle.framing.specs.Answers.{input_answer}
 use Rattle.frame.proofs.Responding.{id_told, input_picked, input_other}
-use borrow.Author.Rules.{rules}
 use Rattle.kept.proofs.respond.input_frame.Goals as goal
 
 pub returns-in-0 : goal.returns-in-0

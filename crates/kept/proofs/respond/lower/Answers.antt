@@ -1,6 +1,5 @@
 use Rattle.kept.proofs.Asking.{buildable_keeps}
 use Rattle.kept.proofs.Keeping.{lower_renews}
-use borrow.Author.Rules.{rules}
 use Rattle.kept.proofs.respond.lower.Goals as goal
 
 pub renew-requires : goal.renew-requires

@@ -1,6 +1,5 @@
 use Rattle.kept.proofs.Asking.{buildable_keeps}
 use Rattle.kept.proofs.Keeping.{nothing_started, classable}
-use borrow.Author.Rules.{rules}
 use Rattle.kept.proofs.respond.renew.Goals as goal
 
 pub returns-then-kind_of-eq0 : goal.returns-then-kind_of-eq0

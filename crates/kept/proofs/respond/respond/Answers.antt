@@ -1,7 +1,5 @@
 use mathlib.Core.Path.{sym, ◌∙◌}
-use borrow.Author.Tests.{not-true, not-false}
 use Rattle.frame.proofs.Responding.{late, timely}
-use borrow.Author.Rules.{rules}
 use Rattle.kept.proofs.respond.respond.Goals as goal
 
 pub returns-then-not-in_time : goal.returns-then-not-in_time

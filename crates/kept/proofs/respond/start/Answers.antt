@@ -1,6 +1,5 @@
 use mathlib.Core.List.{[]}
 use Rattle.kept.proofs.Keeping.{start_renews}
-use borrow.Author.Rules.{rules}
 use Rattle.kept.proofs.respond.start.Goals as goal
 
 pub renew-requires : goal.renew-requires

@@ -1,5 +1,3 @@
-use borrow.Author.Rules.{rules}
-use borrow.Author.Tests.{not-true, not-false}
 use mathlib.Core.Path.{sym, ◌∙◌}
 use Rattle.lower.proofs.Decides.{first_passed, refused_first, nothing-done, refused_then, begun, finished_is}
 use Rattle.lower.proofs.calls.lower.Goals as goal

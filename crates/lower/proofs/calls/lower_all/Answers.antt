@@ -1,7 +1,5 @@
-use borrow.Author.Rules.{rules}
-use mathlib.Core.Path.{◌≡◌, refl, ◌∙◌}
-use lib.ListN.{length}
-use Rattle.lower.proofs.Turns.{Turning, left, turning_start, turning_ready, turning_next, turning_end}
+use mathlib.Core.Path.{refl, ◌∙◌}
+use Rattle.lower.proofs.Turns.{turning_start, turning_ready, turning_next, turning_end}
 use Rattle.lower.proofs.calls.lower_all.Goals as goal
 
 pub loop-progress-init : goal.loop-progress-init

@@ -1,7 +1,6 @@
-use borrow.Author.Rules.{rules}
-use mathlib.Core.Path.{◌≡◌, refl, ◌∙◌}
+use mathlib.Core.Path.{◌≡◌}
 use lib.ListN.{length}
-use Rattle.lower.proofs.Turns.{Turning, left, turning_start, turning_ready, turning_next, turning_end}
+use Rattle.lower.proofs.Turns.{Turning, left}
 use Rattle.lower.proofs.calls.lower_all.Given as goal
 
 abbrev pub invariant-loop-progress : goal.invariant-loop-progress

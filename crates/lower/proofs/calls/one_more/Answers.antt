@@ -1,4 +1,3 @@
-use borrow.Author.Rules.{rules}
 use Rattle.lower.proofs.Advances.{stays, can_substitute, goes_on}
 use Rattle.lower.proofs.calls.one_more.Goals as goal
 

@@ -1,10 +1,7 @@
-use borrow.Author.Rules.{rules}
-use Prim.Native.Nat.{◌≤◌, ◌-◌}
 use mathlib.Core.Path.{◌≡◌, ap, ◌∙◌}
 use native.Mathlib.Omega.{arith}
-use Rattle.layout.specs.Lists.{each, up_to}
 use Rattle.lowering.specs.Lowering.{Candidate}
-use Rattle.lower.specs.Tables.{candidate_of, improved}
+use Rattle.lower.specs.Tables.{improved}
 use Rattle.lower.proofs.Renames.{each_start, each_next}
 use Rattle.lower.proofs.Selects.{nothing, best_last}
 use Rattle.lower.proofs.choose.best_candidate.Goals as goal

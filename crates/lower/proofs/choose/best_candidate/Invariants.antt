@@ -1,12 +1,8 @@
-use borrow.Author.Rules.{rules}
 use Prim.Native.Nat.{◌≤◌, ◌-◌}
-use mathlib.Core.Path.{◌≡◌, ap, ◌∙◌}
-use native.Mathlib.Omega.{arith}
+use mathlib.Core.Path.{◌≡◌}
 use Rattle.layout.specs.Lists.{each, up_to}
-use Rattle.lowering.specs.Lowering.{Candidate}
 use Rattle.lower.specs.Tables.{candidate_of, improved}
-use Rattle.lower.proofs.Renames.{each_start, each_next}
-use Rattle.lower.proofs.Selects.{nothing, best_last}
+use Rattle.lower.proofs.Selects.{nothing}
 use Rattle.lower.proofs.choose.best_candidate.Given as goal
 
 abbrev pub invariant-loop-i : goal.invariant-loop-i

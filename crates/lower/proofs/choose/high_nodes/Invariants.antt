@@ -1,9 +1,5 @@
-use borrow.Author.Rules.{rules}
 use Prim.Native.Nat.{◌-◌}
-use mathlib.Core.Path.{◌≡◌, sym, ◌∙◌}
-use mathlib.Core.Logic.{⊎_elim}
-use native.Mathlib.Omega.{arith}
-use Rattle.lower.proofs.Selects.{Listing, listing_start, listing_yes, listing_no}
+use Rattle.lower.proofs.Selects.{Listing}
 use Rattle.lower.proofs.choose.high_nodes.Given as goal
 
 abbrev pub invariant-loop-i : goal.invariant-loop-i

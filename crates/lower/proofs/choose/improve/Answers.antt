@@ -1,6 +1,4 @@
-use borrow.Author.Rules.{rules}
 use mathlib.Core.Path.{sym, ◌∙◌}
-use borrow.Author.Tests.{not-true, not-false}
 use Rattle.lower.specs.Tables.{improved}
 use Rattle.lower.proofs.choose.improve.Goals as goal
 

@@ -1,6 +1,3 @@
-use borrow.Author.Rules.{rules}
-use borrow.Author.Tests.{not-true, not-false}
-use native.Mathlib.Omega.{arith}
 use Rattle.layout.proofs.Valid.{valid_length}
 use Rattle.lower.proofs.Surveys.{picked_done, ranked, picked_node}
 use Rattle.lower.proofs.next.next_choice.Goals as goal

@@ -1,11 +1,8 @@
 use Rattle.layout.proofs.Valid.{place_fits, limit_top}
-use borrow.Author.Rules.{rules}
-use Prim.Native.Nat.{ℕ, ◌≤◌, ◌-◌}
+use Prim.Native.Nat.{ℕ}
 use mathlib.Core.Path.{◌≡◌, refl, ap, ◌∙◌}
 use mathlib.Core.List.{List}
-use lib.ListN.{length}
 use native.Mathlib.Omega.{arith}
-use Rattle.layout.specs.Lists.{each, up_to}
 use Rattle.layout.specs.Words.{used}
 use Rattle.layout.proofs.Valid.{place_fits}
 use Rattle.circuit.proofs.Places.{write_used}

@@ -1,4 +1,3 @@
-use borrow.Author.Rules.{rules}
 use mathlib.Core.Path.{sym, ◌∙◌}
 use borrow.Author.Tests.{not-true, not-false}
 use Rattle.lower.proofs.Renames.{rename_loose, rename_stay, rename_two}

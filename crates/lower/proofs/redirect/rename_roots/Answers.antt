@@ -1,10 +1,8 @@
-use borrow.Author.Rules.{rules}
-use Prim.Native.Nat.{◌≤◌, ◌-◌}
 use mathlib.Core.Path.{◌≡◌, refl, ◌∙◌}
 use lib.ListN.{length, length-set}
 use native.Mathlib.Omega.{arith}
 use Rattle.lowering.specs.Lowering.{renamed}
-use Rattle.lower.proofs.Renames.{mapped, mapped_start, mapped_next, mapped_all}
+use Rattle.lower.proofs.Renames.{mapped_start, mapped_next, mapped_all}
 use Rattle.lower.proofs.redirect.rename_roots.Goals as goal
 
 pub loop-k-init : goal.loop-k-init

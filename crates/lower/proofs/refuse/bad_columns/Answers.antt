@@ -1,4 +1,3 @@
-use borrow.Author.Rules.{rules}
 use mathlib.Core.Path.{sym, ◌∙◌}
 use Rattle.lower.specs.Refusing.{columns_for}
 use Rattle.lower.proofs.refuse.bad_columns.Goals as goal

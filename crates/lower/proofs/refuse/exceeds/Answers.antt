@@ -1,6 +1,5 @@
 use mathlib.Core.Path.{◌∙◌}
 use Rattle.lower.proofs.Refuses.{high_told}
-use borrow.Author.Rules.{rules}
 use Rattle.lower.proofs.refuse.exceeds.Goals as goal
 
 pub returns : goal.returns

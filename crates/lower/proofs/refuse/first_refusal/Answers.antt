@@ -1,7 +1,6 @@
-use borrow.Author.Rules.{rules}
 use Rattle.lower.proofs.Refuses.{circuit_yes, circuit_no}
 use mathlib.Core.Path.{sym, ◌∙◌}
-use borrow.Author.Tests.{not-true, not-false, lt-ltb, le-ltb}
+use borrow.Author.Tests.{lt-ltb, le-ltb}
 use Rattle.layout.proofs.Valid.{valid_length}
 use Rattle.layout.specs.Outcomes.{refusal}
 use Rattle.lower.specs.Refusing.{first_refusal}

@@ -1,4 +1,3 @@
-use borrow.Author.Rules.{rules}
 use native.Mathlib.Omega.{arith}
 use Rattle.layout.proofs.Valid.{valid_length}
 use Rattle.paths.proofs.Counts.{valid_top}

@@ -1,4 +1,3 @@
-use borrow.Author.Rules.{rules}
 use mathlib.Core.Path.{◌∙◌}
 use Rattle.layout.proofs.Valid.{valid_length}
 use Rattle.lower.proofs.Refuses.{over_from_lem}

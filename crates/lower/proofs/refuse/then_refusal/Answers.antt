@@ -1,9 +1,7 @@
-use mathlib.Core.Path.{sym, ◌∙◌}
 use native.Mathlib.Omega.{arith}
 use Rattle.layout.proofs.Valid.{valid_length}
 use Rattle.paths.proofs.Counts.{valid_top}
 use Rattle.lower.proofs.Refuses.{heavy_few, then_told}
-use borrow.Author.Rules.{rules}
 use Rattle.lower.proofs.refuse.then_refusal.Goals as goal
 
 pub survey-requires : goal.survey-requires

@@ -1,4 +1,3 @@
-use borrow.Author.Rules.{rules}
 use native.Mathlib.Omega.{arith}
 use Rattle.layout.proofs.Valid.{valid_length, valid_room}
 use Rattle.lower.proofs.refuse.too_full.Goals as goal

@@ -1,4 +1,3 @@
-use borrow.Author.Rules.{rules}
 use Rattle.lower.proofs.Substitution.{gives_at, never_full}
 use Rattle.lower.proofs.substitute.make_difference.Goals as goal
 

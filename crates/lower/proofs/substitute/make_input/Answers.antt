@@ -1,4 +1,3 @@
-use borrow.Author.Rules.{rules}
 use Rattle.layout.proofs.Valid.{valid_length}
 use Rattle.lower.proofs.Substitution.{gives_new}
 use Rattle.lower.proofs.substitute.make_input.Goals as goal

@@ -1,4 +1,3 @@
-use borrow.Author.Rules.{rules}
 use mathlib.Core.Path.{refl}
 use Rattle.lower.proofs.Substitution.{input_fresh, can_redirect, can_differ, replaced}
 use Rattle.lower.proofs.substitute.substitute.Goals as goal

@@ -1,14 +1,8 @@
-use borrow.Author.Rules.{rules}
-use Rattle.paths.proofs.Counts.{valid_top}
 use Prim.Native.Nat.{◌≤◌, ◌-◌}
-use mathlib.Core.Path.{◌≡◌, sym, ◌∙◌}
+use mathlib.Core.Path.{◌≡◌}
 use mathlib.Core.Bool.{false}
-use native.Mathlib.Omega.{arith}
 use Rattle.layout.specs.Lists.{any, up_to}
-use Rattle.layout.specs.Words.{used}
 use Rattle.lower.specs.Tables.{is_loose_in}
-use Rattle.layout.proofs.Tests.{any_start, any_one, any_next}
-use Rattle.layout.proofs.Valid.{valid_length, valid_fits}
 use Rattle.lower.proofs.tests.any_loose.Given as goal
 
 abbrev pub invariant-loop-i : goal.invariant-loop-i

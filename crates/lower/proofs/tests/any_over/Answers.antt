@@ -1,9 +1,5 @@
-use borrow.Author.Rules.{rules}
-use Prim.Native.Nat.{◌≤◌, ◌-◌}
 use mathlib.Core.Path.{◌≡◌, sym, ◌∙◌}
-use mathlib.Core.Bool.{false}
 use native.Mathlib.Omega.{arith}
-use Rattle.layout.specs.Lists.{any, up_to}
 use Rattle.lower.specs.Tables.{is_over_in}
 use Rattle.layout.proofs.Tests.{any_start, any_one, any_next}
 use Rattle.lower.proofs.tests.any_over.Goals as goal

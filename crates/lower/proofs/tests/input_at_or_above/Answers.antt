@@ -1,4 +1,3 @@
-use borrow.Author.Rules.{rules}
 use mathlib.Core.Path.{sym, ap, ◌∙◌}
 use Rattle.lowering.specs.Refusals.{input_at_or_above}
 use Rattle.lower.proofs.tests.input_at_or_above.Goals as goal

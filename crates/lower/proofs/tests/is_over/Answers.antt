@@ -1,6 +1,4 @@
-use borrow.Author.Rules.{rules}
 use mathlib.Core.Path.{sym, ◌∙◌}
-use borrow.Author.Tests.{not-true, not-false}
 use Rattle.lower.proofs.tests.is_over.Goals as goal
 
 pub returns-then-not-is_above : goal.returns-then-not-is_above

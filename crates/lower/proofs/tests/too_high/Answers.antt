@@ -1,10 +1,6 @@
-use borrow.Author.Rules.{rules}
-use Prim.Native.Nat.{◌≤◌, ◌-◌}
 use mathlib.Core.Path.{◌≡◌, sym, ◌∙◌}
-use mathlib.Core.Bool.{false}
 use native.Mathlib.Omega.{arith}
-use lib.ListN.{length, take}
-use Rattle.layout.specs.Lists.{any}
+use lib.ListN.{length}
 use Rattle.lower.specs.Tables.{above_in}
 use Rattle.lower.proofs.Seen.{seen_none, seen_one, seen_more, seen_all}
 use Rattle.lower.proofs.tests.too_high.Goals as goal

@@ -1,12 +1,9 @@
-use borrow.Author.Rules.{rules}
 use Prim.Native.Nat.{◌≤◌, ◌-◌}
-use mathlib.Core.Path.{◌≡◌, sym, ◌∙◌}
+use mathlib.Core.Path.{◌≡◌}
 use mathlib.Core.Bool.{false}
-use native.Mathlib.Omega.{arith}
 use lib.ListN.{length, take}
 use Rattle.layout.specs.Lists.{any}
 use Rattle.lower.specs.Tables.{above_in}
-use Rattle.lower.proofs.Seen.{seen_none, seen_one, seen_more, seen_all}
 use Rattle.lower.proofs.tests.too_high.Given as goal
 
 abbrev pub invariant-loop-k : goal.invariant-loop-k

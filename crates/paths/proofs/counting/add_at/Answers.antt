@@ -1,5 +1,4 @@
 use Rattle.paths.proofs.Counts.{add_small, add_big}
-use borrow.Author.Rules.{rules}
 use Rattle.paths.proofs.counting.add_at.Goals as goal
 
 pub returns-then-had-c : goal.returns-then-had-c

@@ -1,11 +1,9 @@
 use mathlib.Core.Path.{◌≡◌, refl, sym, ap, ◌∙◌}
-use lib.ListN.{length, set, replicate, length-set}
-use Rattle.layout.specs.Lists.{written}
+use lib.ListN.{set, length-set}
 use Rattle.paths.proofs.Written.{written_none, zeros_next}
-use Prim.Native.Nat.{ℕ, ◌≤◌, ◌-◌}
+use Prim.Native.Nat.{ℕ}
 use mathlib.Core.List.{List}
 use native.Mathlib.Omega.{arith}
-use borrow.Author.Rules.{rules}
 use Rattle.paths.proofs.counting.clear.Goals as goal
 
 pub loop-i-init : goal.loop-i-init

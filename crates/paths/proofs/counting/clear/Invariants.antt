@@ -1,11 +1,7 @@
-use mathlib.Core.Path.{◌≡◌, refl, sym, ap, ◌∙◌}
-use lib.ListN.{length, set, replicate, length-set}
+use mathlib.Core.Path.{◌≡◌}
+use lib.ListN.{length, replicate}
 use Rattle.layout.specs.Lists.{written}
-use Rattle.paths.proofs.Written.{written_none, zeros_next}
-use Prim.Native.Nat.{ℕ, ◌≤◌, ◌-◌}
-use mathlib.Core.List.{List}
-use native.Mathlib.Omega.{arith}
-use borrow.Author.Rules.{rules}
+use Prim.Native.Nat.{◌≤◌, ◌-◌}
 use Rattle.paths.proofs.counting.clear.Given as goal
 
 abbrev pub invariant-loop-i : goal.invariant-loop-i

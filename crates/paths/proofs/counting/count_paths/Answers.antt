@@ -1,13 +1,10 @@
-use Prim.Native.Nat.{◌≤◌, ◌-◌}
+use Prim.Native.Nat.{◌-◌}
 use mathlib.Core.Path.{◌≡◌, refl, ◌∙◌}
 use native.Mathlib.Omega.{arith}
-use lib.ListN.{length}
-use borrow.Author.Rules.{rules}
-use Rattle.layout.specs.Words.{used}
 use Rattle.layout.proofs.Valid.{valid_length}
 use Rattle.paths.proofs.Walks.{roots_below}
 use Rattle.paths.proofs.Written.{zeros_at}
-use Rattle.paths.proofs.Counts.{valid_top, Shares, shares_start, shares_small, shares_step, shares_done}
+use Rattle.paths.proofs.Counts.{valid_top, shares_start, shares_small, shares_step, shares_done}
 use Rattle.paths.proofs.counting.count_paths.Goals as goal
 
 pub bounds-m-1 : goal.bounds-m-1

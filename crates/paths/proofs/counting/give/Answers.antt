@@ -3,7 +3,6 @@ use native.Mathlib.Omega.{arith}
 use Rattle.layout.proofs.Valid.{valid_fits}
 use Rattle.paths.proofs.Walks.{step_below}
 use Rattle.paths.proofs.Counts.{valid_top, give_stay, give_two_lem}
-use borrow.Author.Rules.{rules}
 use Rattle.paths.proofs.counting.give.Goals as goal
 
 pub offset_bounds-counts-node : goal.offset_bounds-counts-node

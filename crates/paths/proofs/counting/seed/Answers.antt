@@ -1,9 +1,6 @@
-use Prim.Native.Nat.{◌≤◌, ◌-◌}
 use mathlib.Core.Path.{◌≡◌, refl, ◌∙◌}
 use native.Mathlib.Omega.{arith}
 use lib.ListN.{length}
-use borrow.Author.Rules.{rules}
-use Rattle.paths.specs.Counting.{Seeded}
 use Rattle.paths.proofs.Counts.{seeded_start, seeded_next}
 use Rattle.paths.proofs.counting.seed.Goals as goal
 

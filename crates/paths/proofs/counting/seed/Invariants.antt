@@ -1,10 +1,7 @@
 use Prim.Native.Nat.{◌≤◌, ◌-◌}
-use mathlib.Core.Path.{◌≡◌, refl, ◌∙◌}
-use native.Mathlib.Omega.{arith}
+use mathlib.Core.Path.{◌≡◌}
 use lib.ListN.{length}
-use borrow.Author.Rules.{rules}
 use Rattle.paths.specs.Counting.{Seeded}
-use Rattle.paths.proofs.Counts.{seeded_start, seeded_next}
 use Rattle.paths.proofs.counting.seed.Given as goal
 
 abbrev pub invariant-loop-k : goal.invariant-loop-k

@@ -1,12 +1,7 @@
 use Prim.Native.Nat.{ℕ, ◌<◌, ◌≤◌, ◌-◌}
-use mathlib.Core.Path.{sym}
-use native.Mathlib.Omega.{arith}
 use lib.ListN.{length}
-use borrow.Author.Rules.{rules}
-use borrow.Author.Count.{below_none, below_more}
 use Rattle.layout.specs.Words.{used}
 use Rattle.circuit.specs.Rank.{at}
-use Rattle.paths.proofs.Walks.{ids_good, ids_bad}
 use Rattle.paths.proofs.ids.bad_id.Given as goal
 
 abbrev pub invariant-loop-k : goal.invariant-loop-k

@@ -1,9 +1,6 @@
-use Prim.Native.Nat.{ℕ, ◌<◌, ◌≤◌, ◌-◌}
-use mathlib.Core.Path.{◌≡◌, sym}
-use mathlib.Core.Bool.{false}
+use mathlib.Core.Path.{sym}
 use native.Mathlib.Omega.{arith}
 use lib.Dec.{ltb}
-use lib.ListN.{length}
 use borrow.Author.Rules.{rules}
 use borrow.Author.Tests.{lt-ltb, le-ltb}
 use borrow.Author.Count.{below_none, below_more}

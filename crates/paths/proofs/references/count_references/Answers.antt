@@ -3,7 +3,6 @@ use Prim.Native.Nat.{◌≤◌}
 use lib.ListN.{length}
 use mathlib.Core.Path.{sym, ◌∙◌}
 use native.Mathlib.Omega.{arith}
-use borrow.Author.Tests.{not-false}
 use Rattle.layout.proofs.Refusals.{refuses, accepts}
 use Rattle.layout.proofs.Valid.{valid_length}
 use Rattle.paths.proofs.Walks.{roots_below}
@@ -23,12 +22,12 @@ returns-then-bad_id c = count_bad_id _ _ (accepts _ _ c.check.ensures.told (ap n
 
 pub count_paths-requires : goal.count_paths-requires
 count_paths-requires c = record {
-      valid = accepts _ _ c.check.ensures.told (ap not c.if-not-check.false);
-      sorted = c.check.ensures.sorted c.if-not-check.false;
-      order_room = search rules;
-      ids = sym c.bad_id.ensures ∙ c.if-bad_id.false;
-      room = search rules;
-    }
+  valid = accepts _ _ c.check.ensures.told (ap not c.if-not-check.false);
+  sorted = c.check.ensures.sorted c.if-not-check.false;
+  order_room = search rules;
+  ids = sym c.bad_id.ensures ∙ c.if-bad_id.false;
+  room = search rules;
+}
 
 pub any_repeated-requires : goal.any_repeated-requires
 any_repeated-requires c = λ k l.

@@ -2,7 +2,6 @@ use Rattle.std.proofs.Common.{ap, not}
 use Prim.Native.Nat.{◌≤◌}
 use native.Mathlib.Omega.{arith}
 use lib.ListN.{length}
-use borrow.Author.Tests.{not-false}
 use Rattle.layout.proofs.Refusals.{refuses, accepts, bad_id_here}
 use Rattle.layout.proofs.Valid.{valid_length}
 use Rattle.paths.proofs.Counts.{valid_top}
@@ -22,12 +21,12 @@ returns-then-m-i c = counts_bad_id _ _ _ (accepts _ _ c.check.ensures.told (ap n
 
 pub count_paths-requires : goal.count_paths-requires
 count_paths-requires c = record {
-      valid = accepts _ _ c.check.ensures.told (ap not c.if-not-check.false);
-      sorted = c.check.ensures.sorted c.if-not-check.false;
-      order_room = search rules;
-      ids = one_good _ _ c.if-m-i.false;
-      room = search rules;
-    }
+  valid = accepts _ _ c.check.ensures.told (ap not c.if-not-check.false);
+  sorted = c.check.ensures.sorted c.if-not-check.false;
+  order_room = search rules;
+  ids = one_good _ _ c.if-m-i.false;
+  room = search rules;
+}
 
 pub gather-found-requires : goal.gather-found-requires
 gather-found-requires c = record { valid = accepts _ _ c.check.ensures.told (ap not c.if-not-check.false); room = search rules; words_room = search rules }

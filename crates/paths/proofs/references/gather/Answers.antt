@@ -1,13 +1,10 @@
 use Rattle.layout.specs.declared.node.Node.{Node}
-use Prim.Native.Nat.{◌≤◌, ◌-◌}
 use mathlib.Core.Path.{◌≡◌, ap}
-use mathlib.Core.Logic.{⊎_elim}
 use native.Mathlib.Omega.{arith}
-use borrow.Author.Rules.{rules}
 use Rattle.layout.specs.Words.{used}
 use Rattle.layout.proofs.Valid.{valid_length, valid_fits}
 use Rattle.paths.proofs.Counts.{valid_top}
-use Rattle.paths.proofs.Gathers.{Gathered, gathered_start, gathered_few, gathered_next, gathered_same}
+use Rattle.paths.proofs.Gathers.{gathered_start, gathered_few, gathered_next, gathered_same}
 use Rattle.paths.proofs.references.gather.Goals as goal
 use Rattle.paths.proofs.references.gather.Goals.{then-counts-node-gt0, else-counts-node-gt0}
 

@@ -1,5 +1,4 @@
 use borrow.Author.Tests.{lt-ltb, le-ltb}
-use borrow.Author.Rules.{rules}
 use Rattle.paths.proofs.references.put_count.Goals as goal
 
 pub returns-then-c-gt0 : goal.returns-then-c-gt0

@@ -1,10 +1,6 @@
 use Rattle.paths.proofs.Calls.{puts_next}
-use Prim.Native.Nat.{◌≤◌, ◌-◌}
 use mathlib.Core.Path.{◌≡◌, refl, sym, ◌∙◌}
 use native.Mathlib.Omega.{arith}
-use lib.ListN.{length}
-use borrow.Author.Rules.{rules}
-use Rattle.layout.specs.Lists.{up_to, each}
 use Rattle.layout.specs.Words.{used}
 use Rattle.circuit.specs.Rank.{at}
 use Rattle.layout.proofs.Valid.{valid_length, valid_fits}

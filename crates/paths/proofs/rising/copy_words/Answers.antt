@@ -1,10 +1,8 @@
-use Prim.Native.Nat.{ℕ, ◌≤◌, ◌-◌}
+use Prim.Native.Nat.{ℕ}
 use mathlib.Core.Path.{◌≡◌, refl, sym, ap, ◌∙◌}
 use mathlib.Core.List.{List}
 use native.Mathlib.Omega.{arith}
-use lib.ListN.{length, set, take, length-set}
-use borrow.Author.Rules.{rules}
-use Rattle.layout.specs.Lists.{written}
+use lib.ListN.{set, length-set}
 use Rattle.circuit.specs.Rank.{at}
 use Rattle.paths.proofs.Written.{written_none}
 use Rattle.paths.proofs.Inserts.{copy_next}

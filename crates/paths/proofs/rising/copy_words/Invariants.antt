@@ -1,13 +1,7 @@
-use Prim.Native.Nat.{ℕ, ◌≤◌, ◌-◌}
-use mathlib.Core.Path.{◌≡◌, refl, sym, ap, ◌∙◌}
-use mathlib.Core.List.{List}
-use native.Mathlib.Omega.{arith}
-use lib.ListN.{length, set, take, length-set}
-use borrow.Author.Rules.{rules}
+use Prim.Native.Nat.{◌≤◌, ◌-◌}
+use mathlib.Core.Path.{◌≡◌}
+use lib.ListN.{length, take}
 use Rattle.layout.specs.Lists.{written}
-use Rattle.circuit.specs.Rank.{at}
-use Rattle.paths.proofs.Written.{written_none}
-use Rattle.paths.proofs.Inserts.{copy_next}
 use Rattle.paths.proofs.rising.copy_words.Given as goal
 
 abbrev pub invariant-loop-k : goal.invariant-loop-k

@@ -1,7 +1,5 @@
-use mathlib.Core.Logic.{⊎_elim}
 use native.Mathlib.Omega.{arith}
 use Rattle.paths.proofs.Inserts.{insert_stays, insert_moves}
-use borrow.Author.Rules.{rules}
 use Rattle.paths.proofs.rising.insert_word.Goals as goal
 use Rattle.paths.proofs.rising.insert_word.Goals.{then-k-n+else-words-place, else-k-n}
 

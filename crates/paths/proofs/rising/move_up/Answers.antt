@@ -1,8 +1,6 @@
-use Prim.Native.Nat.{◌-◌}
 use native.Mathlib.Omega.{arith}
 use lib.ListN.{length-set}
-use borrow.Author.Rules.{rules}
-use Rattle.paths.proofs.Inserts.{Moving, moving_start, moving_next, moving_done}
+use Rattle.paths.proofs.Inserts.{moving_start, moving_next, moving_done}
 use Rattle.paths.proofs.rising.move_up.Goals as goal
 
 pub loop-j-init : goal.loop-j-init

@@ -1,8 +1,5 @@
 use Prim.Native.Nat.{◌-◌}
-use native.Mathlib.Omega.{arith}
-use lib.ListN.{length-set}
-use borrow.Author.Rules.{rules}
-use Rattle.paths.proofs.Inserts.{Moving, moving_start, moving_next, moving_done}
+use Rattle.paths.proofs.Inserts.{Moving}
 use Rattle.paths.proofs.rising.move_up.Given as goal
 
 abbrev pub invariant-loop-j : goal.invariant-loop-j

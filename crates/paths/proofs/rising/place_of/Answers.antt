@@ -1,8 +1,5 @@
-use Prim.Native.Nat.{ℕ, ◌<◌, ◌≤◌, ◌-◌}
 use native.Mathlib.Omega.{arith}
-use borrow.Author.Rules.{rules}
 use borrow.Author.Count.{below_none, below_more}
-use Rattle.circuit.specs.Rank.{at}
 use Rattle.paths.proofs.rising.place_of.Goals as goal
 
 pub loop-k-init : goal.loop-k-init

@@ -4,7 +4,6 @@ use Rattle.layout.proofs.Valid.{valid_fits}
 use Rattle.paths.proofs.Walks.{step_below}
 use Rattle.paths.proofs.Counts.{valid_top}
 use Rattle.paths.proofs.Lengths.{size_one, size_sum}
-use borrow.Author.Rules.{rules}
 use Rattle.paths.proofs.sizes.size_at.Goals as goal
 
 pub step_at-s-requires : goal.step_at-s-requires

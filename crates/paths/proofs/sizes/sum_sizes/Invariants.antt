@@ -1,11 +1,7 @@
 use Prim.Native.Nat.{◌≤◌, ◌-◌, min}
 use mathlib.Core.Path.{◌≡◌}
-use native.Mathlib.Omega.{arith}
 use lib.ListN.{length, take}
-use borrow.Author.Rules.{rules}
 use Rattle.walking.specs.Paths.{walks}
-use Rattle.paths.proofs.Walks.{roots_below}
-use Rattle.paths.proofs.Lengths.{sum-zero, sum_next, sum_done}
 use Rattle.paths.proofs.sizes.sum_sizes.Given as goal
 
 abbrev pub invariant-loop-k : goal.invariant-loop-k

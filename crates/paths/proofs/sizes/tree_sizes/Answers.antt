@@ -1,12 +1,9 @@
-use Prim.Native.Nat.{◌≤◌, ◌-◌}
-use mathlib.Core.Path.{◌≡◌, refl}
+use mathlib.Core.Path.{refl}
 use native.Mathlib.Omega.{arith}
-use lib.ListN.{length, length-set}
-use borrow.Author.Rules.{rules}
-use Rattle.layout.specs.Words.{used}
+use lib.ListN.{length-set}
 use Rattle.layout.proofs.Valid.{valid_length}
 use Rattle.paths.proofs.Counts.{valid_top}
-use Rattle.paths.proofs.Lengths.{SizesTo, sizes_start, sizes_operands, sizes-next, sizes_done}
+use Rattle.paths.proofs.Lengths.{sizes_start, sizes_operands, sizes-next, sizes_done}
 use Rattle.paths.proofs.sizes.tree_sizes.Goals as goal
 
 pub bounds-m-1 : goal.bounds-m-1

@@ -1,12 +1,8 @@
 use Prim.Native.Nat.{◌≤◌, ◌-◌}
-use mathlib.Core.Path.{◌≡◌, refl}
-use native.Mathlib.Omega.{arith}
-use lib.ListN.{length, length-set}
-use borrow.Author.Rules.{rules}
+use mathlib.Core.Path.{◌≡◌}
+use lib.ListN.{length}
 use Rattle.layout.specs.Words.{used}
-use Rattle.layout.proofs.Valid.{valid_length}
-use Rattle.paths.proofs.Counts.{valid_top}
-use Rattle.paths.proofs.Lengths.{SizesTo, sizes_start, sizes_operands, sizes-next, sizes_done}
+use Rattle.paths.proofs.Lengths.{SizesTo}
 use Rattle.paths.proofs.sizes.tree_sizes.Given as goal
 
 abbrev pub invariant-loop-q : goal.invariant-loop-q

@@ -1,12 +1,9 @@
-use Prim.Native.Nat.{◌-◌}
 use mathlib.Core.Path.{sym, ◌∙◌}
 use native.Mathlib.Omega.{arith}
 use lib.ListN.{length-set}
-use borrow.Author.Rules.{rules}
-use Rattle.layout.specs.Words.{used}
 use Rattle.layout.proofs.Valid.{valid_fits}
 use Rattle.paths.proofs.Counts.{valid_top}
-use Rattle.paths.proofs.Stacks.{Lineage, lineage_start, lineage_left, lineage_done, level_room}
+use Rattle.paths.proofs.Stacks.{lineage_start, lineage_left, lineage_done, level_room}
 use Rattle.paths.proofs.walk.descend.Goals as goal
 
 pub loop-l-init : goal.loop-l-init

@@ -1,12 +1,6 @@
 use Prim.Native.Nat.{◌-◌}
-use mathlib.Core.Path.{sym, ◌∙◌}
-use native.Mathlib.Omega.{arith}
-use lib.ListN.{length-set}
-use borrow.Author.Rules.{rules}
 use Rattle.layout.specs.Words.{used}
-use Rattle.layout.proofs.Valid.{valid_fits}
-use Rattle.paths.proofs.Counts.{valid_top}
-use Rattle.paths.proofs.Stacks.{Lineage, lineage_start, lineage_left, lineage_done, level_room}
+use Rattle.paths.proofs.Stacks.{Lineage}
 use Rattle.paths.proofs.walk.descend.Given as goal
 
 abbrev pub invariant-loop-l : goal.invariant-loop-l

@@ -1,7 +1,6 @@
 use mathlib.Core.Path.{sym, ◌∙◌}
 use Rattle.layout.proofs.Valid.{valid_fits}
 use Rattle.paths.proofs.Stacks.{right_none, right_some, right_descends}
-use borrow.Author.Rules.{rules}
 use Rattle.paths.proofs.walk.go_right.Goals as goal
 
 pub step_at-s-requires : goal.step_at-s-requires

@@ -1,7 +1,6 @@
 use Rattle.std.proofs.Common.{ap, not}
 use mathlib.Core.Path.{sym, ◌∙◌}
 use native.Mathlib.Omega.{arith}
-use borrow.Author.Tests.{not-false}
 use Rattle.layout.proofs.Refusals.{refuses, accepts}
 use Rattle.layout.proofs.Valid.{valid_length}
 use Rattle.paths.proofs.Calls.{walk_no_circuit, walk_bad_id, walk_no_list, walk_no_stack, walk_fits, walk_done}
@@ -19,12 +18,12 @@ returns-then-bad_id c = walk_bad_id _ _ _ _ (accepts _ _ c.check.ensures.told (a
 
 pub walk_length-requires : goal.walk_length-requires
 walk_length-requires c = record {
-      valid = accepts _ _ c.check.ensures.told (ap not c.if-not-check.false);
-      sorted = c.check.ensures.sorted c.if-not-check.false;
-      order_room = search rules;
-      ids = sym c.bad_id.ensures ∙ c.if-bad_id.false;
-      small = search rules;
-    }
+  valid = accepts _ _ c.check.ensures.told (ap not c.if-not-check.false);
+  sorted = c.check.ensures.sorted c.if-not-check.false;
+  order_room = search rules;
+  ids = sym c.bad_id.ensures ∙ c.if-bad_id.false;
+  small = search rules;
+}
 
 pub returns-then-room-walk_length : goal.returns-then-room-walk_length
 returns-then-room-walk_length c = walk_no_list _ _ _ _ (accepts _ _ c.check.ensures.told (ap not c.if-not-check.false)) (sym c.bad_id.ensures ∙ c.if-bad_id.false) _ c.walk_length.ensures c.if-room-walk_length.true

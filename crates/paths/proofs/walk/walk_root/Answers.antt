@@ -1,10 +1,8 @@
-use Prim.Native.Nat.{◌-◌}
 use mathlib.Core.Path.{◌∙◌}
 use native.Mathlib.Omega.{arith}
-use lib.ListN.{length}
 use borrow.Author.Rules.{rules}
 use Rattle.paths.proofs.Counts.{valid_top}
-use Rattle.paths.proofs.Stacks.{Unwinding, unwinding_descends, unwinding_start, unwinding_room, unwinding_depth, unwinding_right, unwinding_next, unwinding_done, walking_kept, walked_from}
+use Rattle.paths.proofs.Stacks.{unwinding_descends, unwinding_start, unwinding_room, unwinding_depth, unwinding_right, unwinding_next, unwinding_done, walking_kept, walked_from}
 use Rattle.paths.proofs.walk.walk_root.Goals as goal
 
 pub descend-depth-requires : goal.descend-depth-requires

@@ -1,9 +1,7 @@
-use Prim.Native.Nat.{◌≤◌, ◌-◌}
 use mathlib.Core.Path.{◌≡◌}
 use native.Mathlib.Omega.{arith}
 use lib.ListN.{length}
-use borrow.Author.Rules.{rules}
-use Rattle.paths.proofs.Stacks.{Rooting, rooting_start, rooting_walking, rooting_next, rooting_done}
+use Rattle.paths.proofs.Stacks.{rooting_start, rooting_walking, rooting_next, rooting_done}
 use Rattle.paths.proofs.walk.walk_roots.Goals as goal
 
 pub loop-k-init : goal.loop-k-init

@@ -1,9 +1,6 @@
 use Prim.Native.Nat.{◌≤◌, ◌-◌}
-use mathlib.Core.Path.{◌≡◌}
-use native.Mathlib.Omega.{arith}
 use lib.ListN.{length}
-use borrow.Author.Rules.{rules}
-use Rattle.paths.proofs.Stacks.{Rooting, rooting_start, rooting_walking, rooting_next, rooting_done}
+use Rattle.paths.proofs.Stacks.{Rooting}
 use Rattle.paths.proofs.walk.walk_roots.Given as goal
 
 abbrev pub invariant-loop-k : goal.invariant-loop-k

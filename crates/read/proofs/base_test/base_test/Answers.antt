@@ -6,7 +6,6 @@ use Rattle.reading.specs.Calls.{base_test_call}
 use Rattle.paths.proofs.Counts.{valid_top}
 use Rattle.layout.proofs.Refusals.{refuses, accepts, refusal_none, reading_no_circuit, reading_bad_id, reading_accepted, bad_id_here}
 use Rattle.layout.proofs.Valid.{valid_length}
-use borrow.Author.Tests.{not-false}
 use native.Mathlib.Omega.{arith}
 use mathlib.Core.List.{[], ◌∷◌}
 use mathlib.Core.Path.{sym}

@@ -1,7 +1,6 @@
 use Rattle.read.proofs.Bases.{base_leaves, bit_test}
 use Rattle.paths.proofs.Counts.{valid_top}
 use native.Mathlib.Omega.{arith}
-use borrow.Author.Rules.{rules}
 use Rattle.read.proofs.base_test.is_base.Goals as goal
 
 pub leaf_bases-requires : goal.leaf_bases-requires

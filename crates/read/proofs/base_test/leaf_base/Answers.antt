@@ -1,5 +1,4 @@
 use Rattle.read.specs.Bases.{base_entry}
-use borrow.Author.Rules.{rules}
 use Rattle.read.proofs.base_test.leaf_base.Goals as goal
 
 pub returns-in-Base : goal.returns-in-Base

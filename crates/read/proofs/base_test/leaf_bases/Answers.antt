@@ -1,12 +1,8 @@
-use Rattle.read.proofs.Tables.{Filling, filling_start, filling_done, filling_word}
+use Rattle.read.proofs.Tables.{filling_start, filling_done, filling_word}
 use Rattle.read.specs.Bases.{base_start, base_entry}
 use Rattle.layout.proofs.Valid.{valid_length, valid_fits}
-use Rattle.circuit.specs.Rank.{at}
-use Rattle.layout.specs.Words.{used}
 use mathlib.Core.Path.{refl, ap, ◌∙◌}
-use Prim.Native.Nat.{◌-◌}
 use native.Mathlib.Omega.{arith}
-use borrow.Author.Rules.{rules}
 use Rattle.read.proofs.base_test.leaf_bases.Goals as goal
 
 pub bounds-m-1 : goal.bounds-m-1

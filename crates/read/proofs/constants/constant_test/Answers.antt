@@ -5,7 +5,6 @@ use Rattle.layout.proofs.Refusals.{refuses, accepts, refusal_none, reading_no_ci
 use Rattle.layout.proofs.Valid.{valid_length, valid_fits}
 use mathlib.Core.List.{[], ◌∷◌}
 use mathlib.Core.Path.{sym}
-use borrow.Author.Rules.{rules}
 use Rattle.read.proofs.constants.constant_test.Goals as goal
 
 pub returns-then-not-is_circuit : goal.returns-then-not-is_circuit

@@ -1,5 +1,4 @@
 use Rattle.reading.specs.Calls.{is_minus_one_call}
-use borrow.Author.Rules.{rules}
 use Rattle.read.proofs.constants.is_minus_one.Goals as goal
 
 pub returns : goal.returns

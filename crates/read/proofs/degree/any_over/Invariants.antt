@@ -1,13 +1,9 @@
 use Rattle.read.specs.Degrees.{over_at}
-use Rattle.layout.proofs.Tests.{any_start, any_next, any_one}
-use Rattle.layout.proofs.Valid.{valid_length}
 use Rattle.layout.specs.Words.{used}
 use Rattle.layout.specs.Lists.{any, up_to}
 use mathlib.Core.Bool.{false}
-use mathlib.Core.Path.{◌≡◌, sym, ◌∙◌}
+use mathlib.Core.Path.{◌≡◌}
 use Prim.Native.Nat.{◌-◌, ◌≤◌}
-use native.Mathlib.Omega.{arith}
-use borrow.Author.Rules.{rules}
 use Rattle.read.proofs.degree.any_over.Given as goal
 
 abbrev pub invariant-loop-i : goal.invariant-loop-i

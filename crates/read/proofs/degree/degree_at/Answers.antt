@@ -6,7 +6,6 @@ use Rattle.paths.proofs.Counts.{valid_top}
 use Rattle.layout.proofs.Valid.{valid_fits}
 use mathlib.Core.Path.{sym, ap, ◌∙◌}
 use native.Mathlib.Omega.{arith}
-use borrow.Author.Rules.{rules}
 use Rattle.read.proofs.degree.degree_at.Goals as goal
 
 pub expression_at-e-requires : goal.expression_at-e-requires

@@ -1,6 +1,5 @@
 use Rattle.read.proofs.Degrees.{product_left, product_right, capped_product}
 use native.Mathlib.Omega.{arith}
-use borrow.Author.Rules.{rules}
 use Rattle.read.proofs.degree.degree_over.Goals as goal
 
 pub returns-then-a-b : goal.returns-then-a-b

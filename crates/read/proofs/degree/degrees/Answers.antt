@@ -1,14 +1,9 @@
 use Rattle.read.proofs.Degrees.{degree_leaves}
-use Rattle.read.proofs.Tables.{Filling, filling_start, filling_done, filling_told, asked_one}
-use Rattle.read.specs.Degrees.{degree_to}
-use Rattle.read.specs.Tables.{Right, itself}
+use Rattle.read.proofs.Tables.{filling_start, filling_done, filling_told, asked_one}
+use Rattle.read.specs.Tables.{itself}
 use Rattle.layout.proofs.Valid.{valid_length}
-use Rattle.circuit.specs.Rank.{at}
-use Rattle.layout.specs.Words.{used}
 use mathlib.Core.Path.{refl, ◌∙◌}
-use Prim.Native.Nat.{◌-◌}
 use native.Mathlib.Omega.{arith}
-use borrow.Author.Rules.{rules}
 use Rattle.read.proofs.degree.degrees.Goals as goal
 
 pub leaf_degrees-requires : goal.leaf_degrees-requires

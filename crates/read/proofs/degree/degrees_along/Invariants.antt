@@ -1,13 +1,7 @@
-use Rattle.read.proofs.Along.{Along, along_joinable, along_next, along_done}
-use Rattle.read.proofs.Tables.{filling_start}
+use Rattle.read.proofs.Along.{Along}
 use Rattle.read.specs.Degrees.{degree_to}
-use Rattle.paths.proofs.Counts.{valid_top}
-use Rattle.layout.proofs.Valid.{valid_length}
 use Rattle.layout.specs.Words.{used}
-use mathlib.Core.Path.{refl}
 use Prim.Native.Nat.{◌-◌}
-use native.Mathlib.Omega.{arith}
-use borrow.Author.Rules.{rules}
 use Rattle.read.proofs.degree.degrees_along.Given as goal
 
 abbrev pub invariant-loop-q : goal.invariant-loop-q

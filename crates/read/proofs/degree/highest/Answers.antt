@@ -3,9 +3,7 @@ use Rattle.reading.specs.Calls.{highest_call}
 use Rattle.layout.proofs.Refusals.{refuses, accepts, reading_no_circuit, reading_bad_id}
 use Rattle.layout.proofs.Valid.{valid_length}
 use native.Mathlib.Omega.{arith}
-use borrow.Author.Tests.{not-false}
 use mathlib.Core.Path.{sym, ◌∙◌}
-use borrow.Author.Rules.{rules}
 use Rattle.read.proofs.degree.highest.Goals as goal
 
 pub returns-then-not-check : goal.returns-then-not-check

@@ -1,9 +1,7 @@
 use Rattle.read.proofs.Highest.{highest_start, highest_next}
 use Rattle.circuit.specs.Rank.{at}
-use lib.ListN.{length, drop}
-use mathlib.Core.List.{map, foldr}
 use mathlib.Core.Path.{◌≡◌, ◌∙◌}
-use Prim.Native.Nat.{◌-◌, ◌≤◌, max}
+use Prim.Native.Nat.{◌-◌}
 use native.Mathlib.Omega.{arith}
 use borrow.Author.Rules.{rules}
 use Rattle.read.proofs.degree.highest_entry.Goals as goal

@@ -1,11 +1,8 @@
-use Rattle.read.proofs.Highest.{highest_start, highest_next}
 use Rattle.circuit.specs.Rank.{at}
 use lib.ListN.{length, drop}
 use mathlib.Core.List.{map, foldr}
-use mathlib.Core.Path.{◌≡◌, ◌∙◌}
-use Prim.Native.Nat.{◌-◌, ◌≤◌, max}
-use native.Mathlib.Omega.{arith}
-use borrow.Author.Rules.{rules}
+use mathlib.Core.Path.{◌≡◌}
+use Prim.Native.Nat.{◌≤◌, max}
 use Rattle.read.proofs.degree.highest_entry.Given as goal
 
 abbrev pub invariant-loop-k : goal.invariant-loop-k

@@ -10,7 +10,7 @@ use mir.Syntax.{w64}
 use native.Mathlib.Omega.{arith}
 use mathlib.Core.List.{[]}
 use mathlib.Core.Path.{sym, ap, ◌∙◌}
-use borrow.Author.Rules.{rules, sfits_of}
+use borrow.Author.Rules.{sfits_of}
 use Rattle.read.proofs.degree.highest_of.Goals as goal
 
 pub degrees-requires : goal.degrees-requires

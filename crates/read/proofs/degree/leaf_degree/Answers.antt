@@ -1,6 +1,5 @@
 use Rattle.read.specs.Degrees.{degree_entry}
 use borrow.Author.Tests.{eq-eqb, ne_eqb}
-use borrow.Author.Rules.{rules}
 use Rattle.read.proofs.degree.leaf_degree.Goals as goal
 
 pub returns-then-w-eq0 : goal.returns-then-w-eq0

@@ -3,7 +3,6 @@ use mir.ValLaws.{to_z_pos}
 use mir.Syntax.{w64}
 use native.Mathlib.Omega.{arith}
 use mathlib.Core.Path.{◌∙◌}
-use borrow.Author.Rules.{rules}
 use Rattle.read.proofs.degree.signed.Goals as goal
 
 pub returns-then-d-eq0 : goal.returns-then-d-eq0

@@ -1,6 +1,5 @@
 use Rattle.read.specs.Tables.{operands_of}
 use mathlib.Core.Path.{sym, ap}
-use borrow.Author.Rules.{rules}
 use Rattle.read.proofs.step.operands_of.Goals as goal
 
 pub returns-in-Operation : goal.returns-in-Operation

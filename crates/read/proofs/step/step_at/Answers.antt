@@ -1,7 +1,6 @@
 use Rattle.read.specs.Tables.{operands_of, step_at}
 use borrow.Author.Tests.{eq-eqb, ne_eqb}
 use mathlib.Core.Path.{ap, ◌∙◌}
-use borrow.Author.Rules.{rules}
 use Rattle.read.proofs.step.step_at.Goals as goal
 
 pub returns-then-w-ne-UNKNOWN : goal.returns-then-w-ne-UNKNOWN

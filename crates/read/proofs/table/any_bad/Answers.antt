@@ -1,12 +1,7 @@
 use Rattle.read.proofs.Lists.{any_none_yet, any_not_here, any_nowhere, any_here}
 use Rattle.layout.specs.NotCircuit.{bad_word}
-use Rattle.layout.specs.Lists.{any}
-use lib.ListN.{length, take}
-use mathlib.Core.Bool.{false}
-use mathlib.Core.Path.{◌≡◌, sym, ◌∙◌}
-use Prim.Native.Nat.{◌-◌, ◌≤◌}
+use mathlib.Core.Path.{sym, ◌∙◌}
 use native.Mathlib.Omega.{arith}
-use borrow.Author.Rules.{rules}
 use Rattle.read.proofs.table.any_bad.Goals as goal
 
 pub loop-k-init : goal.loop-k-init

@@ -2,12 +2,8 @@ use Rattle.read.specs.Lent.{beyond_at}
 use Rattle.layout.proofs.Tests.{any_start, any_next, any_one}
 use Rattle.layout.proofs.Valid.{valid_length}
 use Rattle.layout.specs.Words.{used}
-use Rattle.layout.specs.Lists.{any, up_to}
-use mathlib.Core.Bool.{false}
 use mathlib.Core.Path.{◌≡◌, sym, ◌∙◌}
-use Prim.Native.Nat.{◌-◌, ◌≤◌}
 use native.Mathlib.Omega.{arith}
-use borrow.Author.Rules.{rules}
 use Rattle.read.proofs.table.any_beyond.Goals as goal
 
 pub bounds-m-1 : goal.bounds-m-1

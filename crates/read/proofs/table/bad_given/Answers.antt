@@ -1,6 +1,5 @@
 use Rattle.read.proofs.Lists.{any_three}
 use Rattle.layout.specs.NotCircuit.{bad_word}
-use borrow.Author.Rules.{rules}
 use Rattle.read.proofs.table.bad_given.Goals as goal
 
 pub returns-then-any_bad : goal.returns-then-any_bad

@@ -4,7 +4,6 @@ use Rattle.read.specs.declared.table.Columns.{Columns}
 use Rattle.layout.specs.Words.{used}
 use Rattle.layout.specs.Lists.{any, up_to}
 use mathlib.Core.Path.{sym, ap, ◌∙◌}
-use borrow.Author.Rules.{rules}
 use Rattle.read.proofs.table.bad_table.Goals as goal
 
 pub returns-then-is_uneven : goal.returns-then-is_uneven

@@ -4,7 +4,6 @@ use Rattle.circuit.specs.Rank.{at}
 use borrow.Author.Tests.{lt-ltb, le-ltb}
 use mathlib.Core.Path.{ap, ◌∙◌}
 use native.Mathlib.Omega.{arith}
-use borrow.Author.Rules.{rules}
 use Rattle.read.proofs.table.is_beyond.Goals as goal
 
 pub returns-then-counts-node-eq0 : goal.returns-then-counts-node-eq0

@@ -1,4 +1,3 @@
-use borrow.Author.Rules.{rules}
 use Rattle.read.proofs.table.reads_beyond.Goals as goal
 
 pub returns-in-Challenge : goal.returns-in-Challenge

@@ -2,7 +2,6 @@ use Prim.Native.Nat.{◌+◌, ◌*◌}
 use Rattle.reading.specs.Calls.{triple_at}
 use lib.ListN.{get_or-eq_default}
 use native.Mathlib.Omega.{arith}
-use borrow.Author.Rules.{rules}
 use Rattle.read.proofs.value.aux_at.Goals as goal
 
 pub returns-then-row-k : goal.returns-then-row-k

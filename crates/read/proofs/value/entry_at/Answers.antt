@@ -1,6 +1,5 @@
 use Rattle.reading.specs.Calls.{triple_at}
 use mathlib.Core.Path.{refl}
-use borrow.Author.Rules.{rules}
 use Rattle.read.proofs.value.entry_at.Goals as goal
 
 pub returns : goal.returns

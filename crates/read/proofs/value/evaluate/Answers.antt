@@ -5,11 +5,9 @@ use Rattle.reading.specs.Calls.{evaluate_call}
 use Rattle.paths.proofs.Counts.{valid_top}
 use Rattle.layout.proofs.Refusals.{refuses, accepts, refusal_none, refusal_here, refusal_next, reading_no_circuit, reading_bad_id, reading_refused, reading_accepted, bad_id_here}
 use Rattle.layout.proofs.Valid.{valid_length}
-use borrow.Author.Tests.{not-false}
 use native.Mathlib.Omega.{arith}
 use mathlib.Core.List.{[], ◌∷◌}
 use mathlib.Core.Path.{sym, ◌∙◌}
-use borrow.Author.Rules.{rules}
 use Rattle.read.proofs.value.evaluate.Goals as goal
 
 pub returns-then-not-check : goal.returns-then-not-check

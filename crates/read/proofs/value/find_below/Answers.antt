@@ -1,10 +1,6 @@
-use Rattle.read.proofs.Values.{Finding, finding_start, finding_skip, finding_next}
+use Rattle.read.proofs.Values.{finding_start, finding_skip, finding_next}
 use Rattle.layout.proofs.Valid.{valid_length}
-use Rattle.layout.specs.Words.{used}
-use mathlib.Core.Logic.{⊎_elim}
-use Prim.Native.Nat.{◌-◌}
 use native.Mathlib.Omega.{arith}
-use borrow.Author.Rules.{rules}
 use Rattle.read.proofs.value.find_below.Goals as goal
 use Rattle.read.proofs.value.find_below.Goals.{then-counts-node-ne0, else-counts-node-ne0}
 

@@ -1,10 +1,6 @@
-use Rattle.read.proofs.Values.{Finding, finding_start, finding_skip, finding_next}
-use Rattle.layout.proofs.Valid.{valid_length}
+use Rattle.read.proofs.Values.{Finding}
 use Rattle.layout.specs.Words.{used}
-use mathlib.Core.Logic.{⊎_elim}
 use Prim.Native.Nat.{◌-◌}
-use native.Mathlib.Omega.{arith}
-use borrow.Author.Rules.{rules}
 use Rattle.read.proofs.value.find_below.Given as goal
 
 abbrev pub invariant-loop-i : goal.invariant-loop-i

@@ -1,6 +1,5 @@
 use Rattle.read.proofs.Values.{second_half}
 use Rattle.reading.specs.Calls.{assigned}
-use borrow.Author.Rules.{rules}
 use Rattle.read.proofs.value.input_value.Goals as goal
 
 pub returns-in-Main : goal.returns-in-Main

@@ -1,6 +1,5 @@
 use lib.ListN.{length-set}
 use native.Mathlib.Omega.{arith}
-use borrow.Author.Rules.{rules}
 use Rattle.read.proofs.value.keep.Goals as goal
 
 pub bounds-table-place-2 : goal.bounds-table-place-2

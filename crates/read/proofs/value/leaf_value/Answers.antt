@@ -3,7 +3,6 @@ use Rattle.read.proofs.Values.{input_tables}
 use Rattle.read.specs.Values.{value_entry}
 use Rattle.reading.specs.Calls.{assigned}
 use mathlib.Core.Path.{◌∙◌}
-use borrow.Author.Rules.{rules}
 use Rattle.read.proofs.value.leaf_value.Goals as goal
 
 pub returns-in-Base : goal.returns-in-Base

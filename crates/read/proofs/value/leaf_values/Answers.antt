@@ -1,13 +1,10 @@
 use Rattle.read.proofs.Values.{filling_triple}
-use Rattle.read.proofs.Tables.{Filling, filling_start, filling_done}
+use Rattle.read.proofs.Tables.{filling_start, filling_done}
 use Rattle.read.specs.Values.{value_start, value_entry}
-use Rattle.reading.specs.Calls.{triple_at, assigned}
+use Rattle.reading.specs.Calls.{assigned}
 use Rattle.layout.proofs.Valid.{valid_length, valid_fits}
-use Rattle.layout.specs.Words.{used}
 use mathlib.Core.Path.{refl, ap, ◌∙◌}
-use Prim.Native.Nat.{◌-◌}
 use native.Mathlib.Omega.{arith}
-use borrow.Author.Rules.{rules}
 use Rattle.read.proofs.value.leaf_values.Goals as goal
 
 pub bounds-m-1 : goal.bounds-m-1

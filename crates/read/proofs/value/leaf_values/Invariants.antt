@@ -1,13 +1,8 @@
-use Rattle.read.proofs.Values.{filling_triple}
-use Rattle.read.proofs.Tables.{Filling, filling_start, filling_done}
-use Rattle.read.specs.Values.{value_start, value_entry}
+use Rattle.read.proofs.Tables.{Filling}
+use Rattle.read.specs.Values.{value_start}
 use Rattle.reading.specs.Calls.{triple_at, assigned}
-use Rattle.layout.proofs.Valid.{valid_length, valid_fits}
 use Rattle.layout.specs.Words.{used}
-use mathlib.Core.Path.{refl, ap, ◌∙◌}
 use Prim.Native.Nat.{◌-◌}
-use native.Mathlib.Omega.{arith}
-use borrow.Author.Rules.{rules}
 use Rattle.read.proofs.value.leaf_values.Given as goal
 
 abbrev pub invariant-loop-i : goal.invariant-loop-i

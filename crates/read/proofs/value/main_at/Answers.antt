@@ -1,6 +1,5 @@
 use Rattle.arithmetic.specs.Extension.{lift}
 use mathlib.Core.Path.{ap, ◌∙◌}
-use borrow.Author.Rules.{rules}
 use Rattle.read.proofs.value.main_at.Goals as goal
 
 pub returns : goal.returns

@@ -4,7 +4,6 @@ use Rattle.reading.specs.Calls.{assigned}
 use Rattle.paths.proofs.Counts.{valid_top}
 use mathlib.Core.Path.{◌∙◌}
 use native.Mathlib.Omega.{arith}
-use borrow.Author.Rules.{rules}
 use Rattle.read.proofs.value.value_at.Goals as goal
 
 pub leaf_values-requires : goal.leaf_values-requires

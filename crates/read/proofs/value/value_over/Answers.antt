@@ -1,4 +1,3 @@
-use borrow.Author.Rules.{rules}
 use Rattle.read.proofs.value.value_over.Goals as goal
 
 pub returns-in-Add : goal.returns-in-Add

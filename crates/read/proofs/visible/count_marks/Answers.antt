@@ -1,12 +1,8 @@
 use Rattle.read.proofs.Seen.{marks_start, marks_next}
-use Rattle.read.specs.Marks.{marks}
 use Rattle.circuit.specs.Rank.{at}
 use borrow.Author.Tests.{eq-eqb, ne_eqb}
-use mathlib.Core.Logic.{⊎_elim}
 use mathlib.Core.Path.{◌≡◌, ◌∙◌}
-use Prim.Native.Nat.{◌-◌, ◌≤◌}
 use native.Mathlib.Omega.{arith}
-use borrow.Author.Rules.{rules}
 use Rattle.read.proofs.visible.count_marks.Goals as goal
 use Rattle.read.proofs.visible.count_marks.Goals.{then-seen-place-eq1, else-seen-place-eq1}
 

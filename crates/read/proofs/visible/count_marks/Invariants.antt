@@ -1,12 +1,6 @@
-use Rattle.read.proofs.Seen.{marks_start, marks_next}
 use Rattle.read.specs.Marks.{marks}
-use Rattle.circuit.specs.Rank.{at}
-use borrow.Author.Tests.{eq-eqb, ne_eqb}
-use mathlib.Core.Logic.{⊎_elim}
-use mathlib.Core.Path.{◌≡◌, ◌∙◌}
+use mathlib.Core.Path.{◌≡◌}
 use Prim.Native.Nat.{◌-◌, ◌≤◌}
-use native.Mathlib.Omega.{arith}
-use borrow.Author.Rules.{rules}
 use Rattle.read.proofs.visible.count_marks.Given as goal
 
 abbrev pub invariant-loop-k : goal.invariant-loop-k

@@ -1,11 +1,8 @@
 use Rattle.read.proofs.Seen.{marked_start, marked_skip, marked_set}
-use Rattle.read.specs.Marks.{Marked}
 use Rattle.layout.proofs.Valid.{valid_length}
 use Rattle.layout.specs.Words.{used}
-use lib.ListN.{length, length-set}
-use mathlib.Core.Logic.{⊎_elim}
+use lib.ListN.{length-set}
 use mathlib.Core.Path.{◌≡◌, refl}
-use Prim.Native.Nat.{◌-◌, ◌≤◌}
 use native.Mathlib.Omega.{arith}
 use borrow.Author.Rules.{rules}
 use Rattle.read.proofs.visible.mark_classes.Goals as goal

@@ -3,10 +3,8 @@ use Rattle.reading.specs.Calls.{visible_call}
 use Rattle.layout.proofs.Refusals.{refuses, accepts, refusal_none, reading_no_circuit, reading_bad_id, reading_accepted}
 use Rattle.layout.proofs.Valid.{valid_length}
 use native.Mathlib.Omega.{arith}
-use borrow.Author.Tests.{not-false}
 use mathlib.Core.List.{[]}
 use mathlib.Core.Path.{sym, ◌∙◌}
-use borrow.Author.Rules.{rules}
 use Rattle.read.proofs.visible.visible.Goals as goal
 
 pub returns-then-not-check : goal.returns-then-not-check

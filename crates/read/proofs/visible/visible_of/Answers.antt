@@ -3,7 +3,6 @@ use Rattle.paths.proofs.Counts.{valid_top}
 use Rattle.layout.proofs.Valid.{valid_length}
 use native.Mathlib.Omega.{arith}
 use mathlib.Core.Path.{◌∙◌}
-use borrow.Author.Rules.{rules}
 use Rattle.read.proofs.visible.visible_of.Goals as goal
 
 pub classes-requires : goal.classes-requires

@@ -3,7 +3,6 @@ use mathlib.Core.Path.{refl}
 use Rattle.stream.specs.Frames.{frames_program}
 use Rattle.stream.proofs.Feeding.{line_answered}
 use Rattle.stream.proofs.Whole.{state-is, written_is, places_are, few_written}
-use borrow.Author.Rules.{rules}
 use Rattle.stream.proofs.feed.answer_line.Goals as goal
 
 pub overflow_add-result : goal.overflow_add-result

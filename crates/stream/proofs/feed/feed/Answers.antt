@@ -1,13 +1,7 @@
-use Prim.Native.Nat.{◌-◌, ◌≤◌}
 use mathlib.Core.Path.{refl, ◌∙◌}
 use native.Mathlib.Omega.{arith}
-use borrow.Author.Rules.{rules}
-use lib.ListN.{length, take}
-use Rattle.framing.specs.States.{lent}
-use Rattle.kept.specs.Keeps.{Keeps}
-use Rattle.stream.specs.Stream.{stream, fed, Advanced}
 use Rattle.stream.specs.Frames.{frames_program}
-use Rattle.stream.proofs.Feeding.{Lengths, none_fed, none_written, more_fed, some_taken, rest_length}
+use Rattle.stream.proofs.Feeding.{none_fed, none_written, more_fed, some_taken, rest_length}
 use Rattle.stream.proofs.feed.feed.Goals as goal
 
 pub loop-taken-init : goal.loop-taken-init

@@ -1,13 +1,10 @@
 use Prim.Native.Nat.{◌-◌, ◌≤◌}
-use mathlib.Core.Path.{refl, ◌∙◌}
-use native.Mathlib.Omega.{arith}
-use borrow.Author.Rules.{rules}
 use lib.ListN.{length, take}
 use Rattle.framing.specs.States.{lent}
 use Rattle.kept.specs.Keeps.{Keeps}
 use Rattle.stream.specs.Stream.{stream, fed, Advanced}
 use Rattle.stream.specs.Frames.{frames_program}
-use Rattle.stream.proofs.Feeding.{Lengths, none_fed, none_written, more_fed, some_taken, rest_length}
+use Rattle.stream.proofs.Feeding.{Lengths}
 use Rattle.stream.proofs.feed.feed.Given as goal
 
 abbrev pub invariant-loop-taken : goal.invariant-loop-taken

@@ -1,8 +1,6 @@
-use Prim.Native.Nat.{◌-◌, ◌≤◌}
-use mathlib.Core.Path.{◌≡◌, refl, ◌∙◌}
+use mathlib.Core.Path.{refl, ◌∙◌}
 use native.Mathlib.Omega.{arith}
-use lib.ListN.{length, take}
-use Rattle.stream.proofs.Gathering.{Gathering, gathering_none, gathering_ended, gathering_more, gathering_all}
+use Rattle.stream.proofs.Gathering.{gathering_none, gathering_ended, gathering_more, gathering_all}
 use Rattle.stream.proofs.line.gather.Goals as goal
 
 pub loop-taken-init : goal.loop-taken-init

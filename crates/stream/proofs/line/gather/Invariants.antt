@@ -1,8 +1,7 @@
 use Prim.Native.Nat.{◌-◌, ◌≤◌}
-use mathlib.Core.Path.{◌≡◌, refl, ◌∙◌}
-use native.Mathlib.Omega.{arith}
+use mathlib.Core.Path.{◌≡◌}
 use lib.ListN.{length, take}
-use Rattle.stream.proofs.Gathering.{Gathering, gathering_none, gathering_ended, gathering_more, gathering_all}
+use Rattle.stream.proofs.Gathering.{Gathering}
 use Rattle.stream.proofs.line.gather.Given as goal
 
 abbrev pub invariant-loop-taken : goal.invariant-loop-taken

@@ -1,6 +1,5 @@
 use native.Mathlib.Omega.{arith}
 use Rattle.stream.proofs.Gathering.{keep_full, keep_more}
-use borrow.Author.Rules.{rules}
 use Rattle.stream.proofs.line.keep.Goals as goal
 
 pub returns-then-line-kept : goal.returns-then-line-kept
