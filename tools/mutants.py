@@ -20,29 +20,29 @@ PASSED_OVER = {'Lib', 'Examples', 'BoardExamples', 'Samples', 'Computing', 'Star
 # lines that no change is made in
 OTHERS = ('use ', '--', 'pub ', 'record', 'infix', 'unfolding', 'abbrev', 'unfoldable')
 
-BOOL, NAT, DEC = 'mathlib.Core.Bool', 'Prim.Native.Nat', 'lib.Dec'
+PRELUDE = 'Rattle.std.specs.Prelude'
 NUMBER = r'(?<![\w.⁺])\d+(?![\w⁺])'
 TEST = r'\(\d+, [^∷]*?\)'
 # what is changed, into what, and the names that the change needs
 CHANGES = [
-    (r'\bltb\b', lambda m: 'leb', (DEC, ['ltb', 'leb'])),
-    (r'\bleb\b', lambda m: 'ltb', (DEC, ['ltb', 'leb'])),
-    ('&&', lambda m: '||', (BOOL, ['_&&_', '_||_'])),
-    (r'\|\|', lambda m: '&&', (BOOL, ['_&&_', '_||_'])),
-    (r'\btrue\b', lambda m: 'false', (BOOL, ['true', 'false'])),
-    (r'\bfalse\b', lambda m: 'true', (BOOL, ['true', 'false'])),
+    (r'\bltb\b', lambda m: 'leb', (PRELUDE, ['ltb', 'leb'])),
+    (r'\bleb\b', lambda m: 'ltb', (PRELUDE, ['ltb', 'leb'])),
+    ('&&', lambda m: '||', (PRELUDE, ['◌&&◌', '◌||◌'])),
+    (r'\|\|', lambda m: '&&', (PRELUDE, ['◌&&◌', '◌||◌'])),
+    (r'\btrue\b', lambda m: 'false', (PRELUDE, ['true', 'false'])),
+    (r'\bfalse\b', lambda m: 'true', (PRELUDE, ['true', 'false'])),
     (r'\bnot \(', lambda m: '(', None),
     (NUMBER, lambda m: str(int(m[0]) + 1), None),
     (NUMBER, lambda m: str(max(int(m[0]), 1) - 1), None),
     (r'\bsuc ', lambda m: '', None),
-    (r' \+ ', lambda m: ' - ', (NAT, ['_+_', '_-_'])),
-    (r' - ', lambda m: ' + ', (NAT, ['_+_', '_-_'])),
-    (r'\bmax\b', lambda m: 'min', (NAT, ['min', 'max'])),
-    (r'\bmin\b', lambda m: 'max', (NAT, ['min', 'max'])),
+    (r' \+ ', lambda m: ' - ', (PRELUDE, ['◌+◌', '◌-◌'])),
+    (r' - ', lambda m: ' + ', (PRELUDE, ['◌+◌', '◌-◌'])),
+    (r'\bmax\b', lambda m: 'min', (PRELUDE, ['min', 'max'])),
+    (r'\bmin\b', lambda m: 'max', (PRELUDE, ['min', 'max'])),
     (r'\.c([012])\b', lambda m: f'.c{(int(m[1]) + 1) % 3}', None),
     (r'\.main\b', lambda m: '.aux', None),
     (r'\.aux\b', lambda m: '.main', None),
-    (r'\.(main|aux)\b', lambda m: '.next' + m[1].capitalize(), None),
+    (r'\.(main|aux)\b', lambda m: '.next_' + m[1], None),
     (r'\bl r\b', lambda m: 'r l', None),
     (r'\br l\b', lambda m: 'l r', None),
     (r'\bl\b', lambda m: 'r', None),
@@ -108,16 +108,15 @@ def main():
         sys.exit(__doc__)
     with tempfile.TemporaryDirectory() as work:
         repo = os.path.join(work, 'repo')
-        shutil.copytree(ROOT, repo, symlinks=True, ignore=shutil.ignore_patterns('.git', 'must-fail'))
+        shutil.copytree(ROOT, repo, symlinks=True, ignore=shutil.ignore_patterns('.git', 'must-fail', 'out'))
         count = sum(write(repo, crate) for crate in sys.argv[1:])
         out = subprocess.run(['rt', 'must-fail', *sys.argv[1:]], cwd=repo, capture_output=True, text=True, errors='replace').stdout
-        left = re.findall(r'must-fail (\w+)/(\w+): NOT REFUSED', out)
+        left = re.findall(r'must-fail (\w+)/(\w+)\.edit: NOT REFUSED', out)
         for crate, label in left:
             old, new = open(f'{repo}/crates/{crate}/must-fail/{label}.edit').read().strip().split('\n')[-2:]
             print(f'{crate}/specs/{label.split("_")[0]}.antt:{label.split("_")[1]}\n  {old}\n  {new}')
-        logs = [open(log, errors='replace').read() for log in glob.glob(f'{repo}/target/must-fail/*/*/.log')]
-        unread = sum('not in scope' in log for log in logs)
-        print(f'{count} changes: {unread} name what is not there, {count - unread - len(left)} refused, {len(left)} still proved')
+        unread = out.count(': BAD EDIT: ')
+        print(f'{count} changes: {unread} cannot be read, {count - unread - len(left)} refused, {len(left)} still proved')
 
 
 if __name__ == '__main__':
