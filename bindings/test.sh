@@ -6,8 +6,8 @@ cd "$(dirname "$0")/.."
 work=$(mktemp -d)
 trap 'rm -rf "$work"' EXIT
 
-rt staticlib abi >"$work/log" 2>&1 || { tail -20 "$work/log"; exit 1; }
-library=target/staticlib/libabi.a
+(cd crates/abi && rt lib) >"$work/log" 2>&1 || { tail -20 "$work/log"; exit 1; }
+library=crates/abi/out/libabi.a
 
 # The header and the bindings declare what the library has, and nothing else.
 nm "$library" | sed -n 's/.* T \(atz_.*\)/\1/p' | sort >"$work/has"

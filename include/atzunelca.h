@@ -1,6 +1,6 @@
 /* Atzunelca: constraint circuits, as a proved library. Licence: MIT OR Apache-2.0.
  *
- * The library is target/staticlib/libabi.a, which `rt staticlib abi` writes (x86-64 Linux). It has no state, allocates nothing, and calls nothing
+ * The library is crates/abi/out/libabi.a, which `rt lib` in crates/abi writes (x86-64 Linux). It has no state, allocates nothing, and calls nothing
  * but memcpy and memset. docs/EMBEDDING.md says how to link it, docs/REFERENCE.md says more of each call.
  *
  * HOW EVERY CALL ANSWERS

@@ -15,7 +15,8 @@ The first disagreement is shrunk, as far as document 01 (check.py) goes on
 accepting every frame, and printed; the exit status is then 1.
 
 It needs the built oracle (`oracle/run --build`) and the built programs
-(`rt check frames replay`).
+(`rt run </dev/null` in crates/frames, `rt run -- data/examples.txt` in
+crates/replay).
 """
 import argparse
 import concurrent.futures
@@ -26,7 +27,7 @@ import tempfile
 
 HERE = pathlib.Path(__file__).resolve().parent
 ORACLE = HERE / "target/release/circuit-oracle"
-BIN = HERE.parent / "target/bin"
+CRATES = HERE.parent / "crates"
 THEMES = ["building", "single", "dual", "again", "large", "towers"]
 CHUNK = 250
 
@@ -59,8 +60,8 @@ def arguments():
     parser.add_argument("first", type=int)
     parser.add_argument("count", type=int)
     parser.add_argument("--themes", default=",".join(THEMES))
-    parser.add_argument("--frames", default=str(BIN / "frames"))
-    parser.add_argument("--replay", default=str(BIN / "replay"))
+    parser.add_argument("--frames", default=str(CRATES / "frames/out/frames"))
+    parser.add_argument("--replay", default=str(CRATES / "replay/out/replay"))
     parser.add_argument("--no-dumps", dest="replay", action="store_const", const="")
     return parser.parse_args()
 

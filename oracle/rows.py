@@ -11,7 +11,7 @@ after the other; check.py answers the frames. The first line that differs is
 printed; the exit status is then 1.
 
 It needs the built oracle (`oracle/run --build`) and the built program
-(`rt check fill`).
+(`rt run </dev/null` in crates/fill).
 """
 import argparse
 import random
@@ -20,7 +20,7 @@ import sys
 from collections import Counter
 
 from check import BAD_WORD, CHALLENGE, FRAME, MAIN, NO_ROOM, P, TABLE, Program, Refused, words
-from differential import BIN, generated
+from differential import CRATES, generated
 
 MOST = 1024
 
@@ -151,7 +151,7 @@ def main():
     parser.add_argument("first", type=int)
     parser.add_argument("count", type=int)
     parser.add_argument("--themes", default="building,single,dual,again,large")
-    parser.add_argument("--fill", default=str(BIN / "fill"))
+    parser.add_argument("--fill", default=str(CRATES / "fill/out/fill"))
     options = parser.parse_args()
     met, total = Counter(), 0
     for theme in options.themes.split(","):

@@ -108,15 +108,15 @@ def main():
         sys.exit(__doc__)
     with tempfile.TemporaryDirectory() as work:
         repo = os.path.join(work, 'repo')
-        shutil.copytree(ROOT, repo, symlinks=True, ignore=shutil.ignore_patterns('.git', 'must-fail', 'out'))
+        shutil.copytree(ROOT, repo, symlinks=True, ignore=shutil.ignore_patterns('.git', 'must-fail', 'out', 'target'))
         count = sum(write(repo, crate) for crate in sys.argv[1:])
         out = subprocess.run(['rt', 'must-fail', *sys.argv[1:]], cwd=repo, capture_output=True, text=True, errors='replace').stdout
         left = re.findall(r'must-fail (\w+)/(\w+)\.edit: NOT REFUSED', out)
         for crate, label in left:
             old, new = open(f'{repo}/crates/{crate}/must-fail/{label}.edit').read().strip().split('\n')[-2:]
             print(f'{crate}/specs/{label.split("_")[0]}.antt:{label.split("_")[1]}\n  {old}\n  {new}')
-        unread = out.count(': BAD EDIT: ')
-        print(f'{count} changes: {unread} cannot be read, {count - unread - len(left)} refused, {len(left)} still proved')
+        unread, refused = out.count(': BAD EDIT: '), out.count(': refused, as it must be')
+        print(f'{count} changes: {unread} cannot be read, {refused} refused, {len(left)} still proved, {count - unread - refused - len(left)} not tried')
 
 
 if __name__ == '__main__':

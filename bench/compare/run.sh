@@ -10,16 +10,18 @@ work=$(mktemp -d)
 trap 'rm -rf "$work"' EXIT
 
 "$repo/oracle/run" --build
-(cd "$repo" && rt staticlib abi >"$work/log" 2>&1) || { tail -20 "$work/log"; exit 1; }
+(cd "$repo/crates/abi" && rt lib >"$work/log" 2>&1) || { tail -20 "$work/log"; exit 1; }
 
 # A repository of its own: building, and a crate that exports its inner calls. They ask what the inner forms ask, so they are no part of the library.
 mkdir -p "$work/crates/inner/src" "$here/target/inner"
-for crate in arithmetic field layout circuit classes building build; do cp -r "$repo/crates/$crate" "$work/crates/"; done
+for crate in arithmetic field layout circuit classes building build; do
+    tar -C "$repo/crates" --exclude="$crate/out" -cf - "$crate" | tar -C "$work/crates" -xf -
+done
 cp "$here/inner.rt.txt" "$work/crates/inner/src/lib.rt"
 grep -E '^(arithmetic|field|layout|circuit|classes|building|build):' "$repo/crates.txt" >"$work/crates.txt"
-echo 'inner: build building classes circuit layout field arithmetic' >>"$work/crates.txt"
-(cd "$work" && rt staticlib inner >log 2>&1) || { tail -20 "$work/log"; exit 1; }
-cp "$work/target/staticlib/libinner.a" "$here/target/inner/"
+echo 'inner staticlib: build building classes circuit layout field arithmetic' >>"$work/crates.txt"
+(cd "$work/crates/inner" && rt lib >"$work/log" 2>&1) || { tail -20 "$work/log"; exit 1; }
+cp "$work/crates/inner/out/libinner.a" "$here/target/inner/"
 
 cd "$here"
 cargo build --release --offline --quiet

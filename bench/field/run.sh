@@ -2,7 +2,7 @@
 # Times and instruction counts of the fields' products. Needs cargo and valgrind.
 set -eu
 cd "$(dirname "$0")/../.."
-rt staticlib field_abi >/dev/null
+(cd crates/field_abi && rt lib) >/dev/null
 cd bench/field
 cargo build --release --offline --quiet
 bench=target/release/field_bench

@@ -8,7 +8,8 @@ again and again: sharing finds a node for every line. Both programs answer the
 same file from a file to a file, taking turns; the answers have to be equal byte
 for byte. Times are the least of RUNS (5) runs, in wall-clock and in the
 process's own processor time; memory is the most that it had resident.
-It needs the built oracle (oracle/run --build) and `rt check frames`.
+It needs the built oracle (oracle/run --build) and the built program
+(`rt run </dev/null` in crates/frames).
 """
 import os
 import subprocess
@@ -19,7 +20,7 @@ from pathlib import Path
 
 ROOT = Path(__file__).resolve().parents[2]
 ORACLE = ROOT / "oracle/target/release/circuit-oracle"
-FRAMES = ROOT / "target/bin/frames"
+FRAMES = ROOT / "crates/frames/out/frames"
 LINES = 100_000
 CIRCUITS = [
     ("products", 25, 4),

@@ -11,17 +11,17 @@ prepare() {
     shift
     mkdir -p "$work/crates/$name/src"
     for crate in "$@"; do
-        cp -r "$repo/crates/$crate" "$work/crates/"
+        tar -C "$repo/crates" --exclude="$crate/out" -cf - "$crate" | tar -C "$work/crates" -xf -
         grep "^$crate:" "$repo/crates.txt" >>"$work/crates.txt"
     done
     cp "$here/$name.rt.txt" "$work/crates/$name/src/lib.rt"
-    echo "$name: $*" >>"$work/crates.txt"
+    echo "$name staticlib: $*" >>"$work/crates.txt"
     if [ -f "$here/$name.proof.txt" ]; then
         mkdir -p "$work/crates/$name/proofs/bench_classes"
-        cp "$here/$name.proof.txt" "$work/crates/$name/proofs/bench_classes/Proof.antt"
+        cp "$here/$name.proof.txt" "$work/crates/$name/proofs/bench_classes/Answers.antt"
     fi
-    (cd "$work" && rt staticlib "$name" >log.txt 2>&1) || { tail -20 "$work/log.txt"; exit 1; }
-    cc -O1 -g -I "$repo/bench/shared" -o "$work/measure" "$here/measure.c" "$work/target/staticlib/lib$name.a" -lpthread
+    (cd "$work/crates/$name" && rt lib >"$work/log.txt" 2>&1) || { tail -20 "$work/log.txt"; exit 1; }
+    cc -O1 -g -I "$repo/bench/shared" -o "$work/measure" "$here/measure.c" "$work/crates/$name/out/lib$name.a" -lpthread
 }
 
 # Instructions of one call: KIND NODES CALL

@@ -1,6 +1,6 @@
 //! Times of the proved products beside products written by hand in Rust, in one run.
 //!
-//!     rt staticlib field_abi && cargo run --release --offline
+//!     (cd ../../crates/field_abi && rt lib) && cargo run --release --offline
 //!     field_bench NAME N      runs one chain of N products, for an instruction counter
 //!
 //! Each contender is a chain: one call, that is not inlined, of a loop that makes n products, each of the two before it. A call
