@@ -1,6 +1,7 @@
 // Runs hand-made memories, damaged in one way each and at the edge of each bound, and compares the answers with those that document 01 asks for.
 // Says how many were compared, and the number of each that differs.
 #![tactic(auto)]
+
 ghost use Rattle.std.specs.Prelude.{◌<◌, ◌≤◌};
 
 use circuit::calls::{free, read, start, used};
@@ -8,6 +9,7 @@ use circuit::place::words_of;
 use layout::answer::{Counted, NodeRead, Started};
 use layout::node::RowKind;
 use layout::refusal::{BAD_ID, NOT_CIRCUIT};
+use std::io;
 
 // p - 1, the last word of the base field
 const LAST: u64 = 18446744069414584320;
@@ -20,21 +22,19 @@ struct Tally {
 }
 
 // One comparison more.
-fn compare(t: Tally, got: u64, want: u64) -> Tally {
+fn compare(rt: &impl Print, t: Tally, got: u64, want: u64) -> io::Result<Tally> {
     let number = std::num::wrapping_add_u64(t.compared, 1);
     if got == want {
-        return Tally {
+        return Ok(Tally {
             compared: number,
             differed: t.differed,
-        };
+        });
     }
-    io::write_all(1, b"differs: ");
-    io::print_decimal(1, number);
-    io::write_all(1, b"\n");
-    Tally {
+    println!(rt; "differs: {number}")?;
+    Ok(Tally {
         compared: number,
         differed: std::num::wrapping_add_u64(t.differed, 1),
-    }
+    })
 }
 
 // The number of an answer: 0 where the call is accepted.
@@ -87,164 +87,172 @@ fn sample() -> [u64; 64] {
 }
 
 // The sample with word `at` of it set to v: both counts are refused with `want`, or accepted where that is 0.
-fn changed(t: Tally, at: usize, v: u64, want: u64) -> Tally
+fn changed(rt: &impl Print, t: Tally, at: usize, v: u64, want: u64) -> io::Result<Tally>
     requires { at < 64 }
 {
     let mut m = sample();
     m[at] = v;
-    let a = compare(t, number(used(&m)), want);
-    compare(a, number(free(&m)), want)
+    let a = compare(rt, t, number(used(&m)), want)?;
+    compare(rt, a, number(free(&m)), want)
 }
 
 // The same with two words set.
-fn twice(t: Tally, at: usize, v: u64, also: usize, w: u64, want: u64) -> Tally
+fn twice(
+    rt: &impl Print,
+    t: Tally,
+    at: usize,
+    v: u64,
+    also: usize,
+    w: u64,
+    want: u64,
+) -> io::Result<Tally>
     requires { (at < 64) × (also < 64) }
 {
     let mut m = sample();
     m[at] = v;
     m[also] = w;
-    compare(t, number(used(&m)), want)
+    compare(rt, t, number(used(&m)), want)
 }
 
 // The sample as a single-row circuit, with these kinds for its two inputs of the next row.
-fn single(t: Tally, a: u64, b: u64, want: u64) -> Tally {
+fn single(rt: &impl Print, t: Tally, a: u64, b: u64, want: u64) -> io::Result<Tally> {
     let mut m = sample();
     m[0] = 1;
     m[44] = a;
     m[50] = b;
-    compare(t, number(used(&m)), want)
+    compare(rt, t, number(used(&m)), want)
 }
 
 // Row kind and used count.
-fn headers(t: Tally) -> Tally {
+fn headers(rt: &impl Print, t: Tally) -> io::Result<Tally> {
     let mut r = t;
-    r = changed(r, 0, 0, NOT_CIRCUIT);
-    r = changed(r, 0, 2, 0);
-    r = changed(r, 0, 3, NOT_CIRCUIT);
-    r = changed(r, 1, 9, 0);
-    r = changed(r, 1, 10, NOT_CIRCUIT);
-    r = changed(r, 1, 11, NOT_CIRCUIT);
-    r = changed(r, 1, 18446744073709551615, NOT_CIRCUIT);
-    r
+    r = changed(rt, r, 0, 0, NOT_CIRCUIT)?;
+    r = changed(rt, r, 0, 2, 0)?;
+    r = changed(rt, r, 0, 3, NOT_CIRCUIT)?;
+    r = changed(rt, r, 1, 9, 0)?;
+    r = changed(rt, r, 1, 10, NOT_CIRCUIT)?;
+    r = changed(rt, r, 1, 11, NOT_CIRCUIT)?;
+    r = changed(rt, r, 1, 18446744073709551615, NOT_CIRCUIT)?;
+    Ok(r)
 }
 
 // Kinds and marks, and words that nobody reads.
-fn kinds(t: Tally) -> Tally {
+fn kinds(rt: &impl Print, t: Tally) -> io::Result<Tally> {
     let mut r = t;
-    r = changed(r, 2, 8, 0);
-    r = changed(r, 2, 9, NOT_CIRCUIT);
-    r = changed(r, 2, 18446744073709551615, NOT_CIRCUIT);
-    r = changed(r, 6, 0, 0);
-    r = changed(r, 6, 1, 0);
-    r = changed(r, 6, 2, NOT_CIRCUIT);
-    r = changed(r, 7, 18446744073709551615, 0);
-    r = changed(r, 4, 18446744073709551615, 0);
-    r = changed(r, 56, 18446744073709551615, 0);
-    r = changed(r, 60, 2, 0);
-    r = changed(r, 63, 18446744073709551615, 0);
-    r
+    r = changed(rt, r, 2, 8, 0)?;
+    r = changed(rt, r, 2, 9, NOT_CIRCUIT)?;
+    r = changed(rt, r, 2, 18446744073709551615, NOT_CIRCUIT)?;
+    r = changed(rt, r, 6, 0, 0)?;
+    r = changed(rt, r, 6, 1, 0)?;
+    r = changed(rt, r, 6, 2, NOT_CIRCUIT)?;
+    r = changed(rt, r, 7, 18446744073709551615, 0)?;
+    r = changed(rt, r, 4, 18446744073709551615, 0)?;
+    r = changed(rt, r, 56, 18446744073709551615, 0)?;
+    r = changed(rt, r, 60, 2, 0)?;
+    r = changed(rt, r, 63, 18446744073709551615, 0)?;
+    Ok(r)
 }
 
 // Words of constants: p - 1 and p, and an extension constant that unlifts.
-fn constants(t: Tally) -> Tally {
+fn constants(rt: &impl Print, t: Tally) -> io::Result<Tally> {
     let mut r = t;
-    r = changed(r, 3, LAST, 0);
-    r = changed(r, 3, LAST + 1, NOT_CIRCUIT);
-    r = changed(r, 9, LAST, 0);
-    r = changed(r, 9, LAST + 1, NOT_CIRCUIT);
-    r = changed(r, 10, LAST, 0);
-    r = changed(r, 10, LAST + 1, NOT_CIRCUIT);
-    r = changed(r, 11, LAST, 0);
-    r = changed(r, 11, LAST + 1, NOT_CIRCUIT);
-    r = changed(r, 10, 0, 0);
-    r = changed(r, 11, 0, 0);
-    r = twice(r, 10, 0, 11, 0, NOT_CIRCUIT);
-    r
+    r = changed(rt, r, 3, LAST, 0)?;
+    r = changed(rt, r, 3, LAST + 1, NOT_CIRCUIT)?;
+    r = changed(rt, r, 9, LAST, 0)?;
+    r = changed(rt, r, 9, LAST + 1, NOT_CIRCUIT)?;
+    r = changed(rt, r, 10, LAST, 0)?;
+    r = changed(rt, r, 10, LAST + 1, NOT_CIRCUIT)?;
+    r = changed(rt, r, 11, LAST, 0)?;
+    r = changed(rt, r, 11, LAST + 1, NOT_CIRCUIT)?;
+    r = changed(rt, r, 10, 0, 0)?;
+    r = changed(rt, r, 11, 0, 0)?;
+    r = twice(rt, r, 10, 0, 11, 0, NOT_CIRCUIT)?;
+    Ok(r)
 }
 
 // Columns and challenges: 65,535 and 65,536.
-fn indices(t: Tally) -> Tally {
+fn indices(rt: &impl Print, t: Tally) -> io::Result<Tally> {
     let mut r = t;
-    r = changed(r, 15, 65535, 0);
-    r = changed(r, 15, 65536, NOT_CIRCUIT);
-    r = changed(r, 33, 65535, 0);
-    r = changed(r, 33, 65536, NOT_CIRCUIT);
-    r = changed(r, 39, 65535, 0);
-    r = changed(r, 39, 65536, NOT_CIRCUIT);
-    r = changed(r, 45, 65535, 0);
-    r = changed(r, 45, 65536, NOT_CIRCUIT);
-    r = changed(r, 51, 65535, 0);
-    r = changed(r, 51, 65536, NOT_CIRCUIT);
-    r
+    r = changed(rt, r, 15, 65535, 0)?;
+    r = changed(rt, r, 15, 65536, NOT_CIRCUIT)?;
+    r = changed(rt, r, 33, 65535, 0)?;
+    r = changed(rt, r, 33, 65536, NOT_CIRCUIT)?;
+    r = changed(rt, r, 39, 65535, 0)?;
+    r = changed(rt, r, 39, 65536, NOT_CIRCUIT)?;
+    r = changed(rt, r, 45, 65535, 0)?;
+    r = changed(rt, r, 45, 65536, NOT_CIRCUIT)?;
+    r = changed(rt, r, 51, 65535, 0)?;
+    r = changed(rt, r, 51, 65536, NOT_CIRCUIT)?;
+    Ok(r)
 }
 
 // Operands: the last used id and the next, the node itself, a cycle of two, and one that rises without a cycle.
-fn operands(t: Tally) -> Tally {
+fn operands(rt: &impl Print, t: Tally) -> io::Result<Tally> {
     let mut r = t;
-    r = changed(r, 21, 8, 0);
-    r = changed(r, 21, 9, NOT_CIRCUIT);
-    r = changed(r, 22, 8, 0);
-    r = changed(r, 22, 9, NOT_CIRCUIT);
-    r = changed(r, 21, 3, NOT_CIRCUIT);
-    r = changed(r, 22, 3, NOT_CIRCUIT);
-    r = changed(r, 21, 4, NOT_CIRCUIT);
-    r = changed(r, 22, 4, NOT_CIRCUIT);
-    r = twice(r, 21, 4, 27, 2, 0);
-    r = changed(r, 22, 18446744073709551615, NOT_CIRCUIT);
-    r
+    r = changed(rt, r, 21, 8, 0)?;
+    r = changed(rt, r, 21, 9, NOT_CIRCUIT)?;
+    r = changed(rt, r, 22, 8, 0)?;
+    r = changed(rt, r, 22, 9, NOT_CIRCUIT)?;
+    r = changed(rt, r, 21, 3, NOT_CIRCUIT)?;
+    r = changed(rt, r, 22, 3, NOT_CIRCUIT)?;
+    r = changed(rt, r, 21, 4, NOT_CIRCUIT)?;
+    r = changed(rt, r, 22, 4, NOT_CIRCUIT)?;
+    r = twice(rt, r, 21, 4, 27, 2, 0)?;
+    r = changed(rt, r, 22, 18446744073709551615, NOT_CIRCUIT)?;
+    Ok(r)
 }
 
 // Inputs of the next row in a single-row circuit: the sample has two.
-fn rows(t: Tally) -> Tally {
+fn rows(rt: &impl Print, t: Tally) -> io::Result<Tally> {
     let mut r = t;
-    r = changed(r, 0, 1, NOT_CIRCUIT);
-    r = single(r, 5, 6, 0);
-    r = single(r, 7, 6, NOT_CIRCUIT);
-    r = single(r, 5, 8, NOT_CIRCUIT);
-    r
+    r = changed(rt, r, 0, 1, NOT_CIRCUIT)?;
+    r = single(rt, r, 5, 6, 0)?;
+    r = single(rt, r, 7, 6, NOT_CIRCUIT)?;
+    r = single(rt, r, 5, 8, NOT_CIRCUIT)?;
+    Ok(r)
 }
 
 // The sample's first k words: the number of an answer, and how many places are free.
-fn cut(t: Tally, k: usize, want: u64, places: u64) -> Tally
+fn cut(rt: &impl Print, t: Tally, k: usize, want: u64, places: u64) -> io::Result<Tally>
     requires { k ≤ 64 }
 {
     let m = sample();
     let mut r = t;
-    r = compare(r, number(used(&m[0..k])), want);
-    r = compare(r, value(free(&m[0..k])), places);
-    r
+    r = compare(rt, r, number(used(&m[0..k])), want)?;
+    r = compare(rt, r, value(free(&m[0..k])), places)?;
+    Ok(r)
 }
 
 // The first k words of a fresh circuit.
-fn fresh(t: Tally, k: usize, want: u64, places: u64) -> Tally
+fn fresh(rt: &impl Print, t: Tally, k: usize, want: u64, places: u64) -> io::Result<Tally>
     requires { k ≤ 14 }
 {
     let mut m = [0u64; 14];
     m[0] = 1;
     let mut r = t;
-    r = compare(r, number(used(&m[0..k])), want);
-    r = compare(r, value(free(&m[0..k])), places);
-    r
+    r = compare(rt, r, number(used(&m[0..k])), want)?;
+    r = compare(rt, r, value(free(&m[0..k])), places)?;
+    Ok(r)
 }
 
 // Slices too short for the two first words, and those that a place just fits or does not.
-fn lengths(t: Tally) -> Tally {
+fn lengths(rt: &impl Print, t: Tally) -> io::Result<Tally> {
     let mut r = t;
-    r = cut(r, 0, NOT_CIRCUIT, 0);
-    r = cut(r, 1, NOT_CIRCUIT, 0);
-    r = cut(r, 2, NOT_CIRCUIT, 0);
-    r = cut(r, 55, NOT_CIRCUIT, 0);
-    r = cut(r, 56, 0, 0);
-    r = cut(r, 61, 0, 0);
-    r = cut(r, 62, 0, 1);
-    r = cut(r, 64, 0, 1);
-    r = fresh(r, 0, NOT_CIRCUIT, 0);
-    r = fresh(r, 1, NOT_CIRCUIT, 0);
-    r = fresh(r, 2, 0, 0);
-    r = fresh(r, 7, 0, 0);
-    r = fresh(r, 8, 0, 1);
-    r = fresh(r, 14, 0, 2);
-    r
+    r = cut(rt, r, 0, NOT_CIRCUIT, 0)?;
+    r = cut(rt, r, 1, NOT_CIRCUIT, 0)?;
+    r = cut(rt, r, 2, NOT_CIRCUIT, 0)?;
+    r = cut(rt, r, 55, NOT_CIRCUIT, 0)?;
+    r = cut(rt, r, 56, 0, 0)?;
+    r = cut(rt, r, 61, 0, 0)?;
+    r = cut(rt, r, 62, 0, 1)?;
+    r = cut(rt, r, 64, 0, 1)?;
+    r = fresh(rt, r, 0, NOT_CIRCUIT, 0)?;
+    r = fresh(rt, r, 1, NOT_CIRCUIT, 0)?;
+    r = fresh(rt, r, 2, 0, 0)?;
+    r = fresh(rt, r, 7, 0, 0)?;
+    r = fresh(rt, r, 8, 0, 1)?;
+    r = fresh(rt, r, 14, 0, 2)?;
+    Ok(r)
 }
 
 // What was read, as the six words of a place; all 0 where the call is refused.
@@ -261,17 +269,17 @@ fn words(r: NodeRead) -> [u64; 6] {
 }
 
 // Compares the node i of the sample with the words that it should show.
-fn node(t: Tally, i: u64, want: [u64; 6]) -> Tally {
+fn node(rt: &impl Print, t: Tally, i: u64, want: [u64; 6]) -> io::Result<Tally> {
     let m = sample();
     let got = words(read(&m, i));
     let mut r = t;
-    r = compare(r, got[0], want[0]);
-    r = compare(r, got[1], want[1]);
-    r = compare(r, got[2], want[2]);
-    r = compare(r, got[3], want[3]);
-    r = compare(r, got[4], want[4]);
-    r = compare(r, got[5], want[5]);
-    r
+    r = compare(rt, r, got[0], want[0])?;
+    r = compare(rt, r, got[1], want[1])?;
+    r = compare(rt, r, got[2], want[2])?;
+    r = compare(rt, r, got[3], want[3])?;
+    r = compare(rt, r, got[4], want[4])?;
+    r = compare(rt, r, got[5], want[5])?;
+    Ok(r)
 }
 
 fn read_number(r: NodeRead) -> u64 {
@@ -282,31 +290,31 @@ fn read_number(r: NodeRead) -> u64 {
 }
 
 // The sample's nodes.
-fn nodes(t: Tally) -> Tally {
+fn nodes(rt: &impl Print, t: Tally) -> io::Result<Tally> {
     let mut r = t;
-    r = node(r, 0, [0, 5, 0, 0, 1, 0]);
-    r = node(r, 1, [1, 1, 2, 3, 1, 4]);
-    r = node(r, 2, [2, 7, 0, 0, 0, 0]);
-    r = node(r, 3, [3, 0, 1, 0, 1, 0]);
-    r = node(r, 4, [4, 3, 2, 0, 1, 0]);
-    r = node(r, 5, [5, 0, 0, 0, 1, 0]);
-    r = node(r, 6, [6, 1, 0, 0, 1, 0]);
-    r = node(r, 7, [7, 2, 0, 0, 1, 0]);
-    r = node(r, 8, [8, 3, 0, 0, 1, 0]);
-    r
+    r = node(rt, r, 0, [0, 5, 0, 0, 1, 0])?;
+    r = node(rt, r, 1, [1, 1, 2, 3, 1, 4])?;
+    r = node(rt, r, 2, [2, 7, 0, 0, 0, 0])?;
+    r = node(rt, r, 3, [3, 0, 1, 0, 1, 0])?;
+    r = node(rt, r, 4, [4, 3, 2, 0, 1, 0])?;
+    r = node(rt, r, 5, [5, 0, 0, 0, 1, 0])?;
+    r = node(rt, r, 6, [6, 1, 0, 0, 1, 0])?;
+    r = node(rt, r, 7, [7, 2, 0, 0, 1, 0])?;
+    r = node(rt, r, 8, [8, 3, 0, 0, 1, 0])?;
+    Ok(r)
 }
 
 // Ids that are none, in the sample and in a damaged one.
-fn ids(t: Tally) -> Tally {
+fn ids(rt: &impl Print, t: Tally) -> io::Result<Tally> {
     let m = sample();
     let mut bad = sample();
     bad[2] = 9;
     let mut r = t;
-    r = compare(r, read_number(read(&m, 8)), 0);
-    r = compare(r, read_number(read(&m, 9)), BAD_ID);
-    r = compare(r, read_number(read(&m, 18446744073709551615)), BAD_ID);
-    r = compare(r, read_number(read(&bad, 9)), NOT_CIRCUIT);
-    r
+    r = compare(rt, r, read_number(read(&m, 8)), 0)?;
+    r = compare(rt, r, read_number(read(&m, 9)), BAD_ID)?;
+    r = compare(rt, r, read_number(read(&m, 18446744073709551615)), BAD_ID)?;
+    r = compare(rt, r, read_number(read(&bad, 9)), NOT_CIRCUIT)?;
+    Ok(r)
 }
 
 fn start_number(s: Started) -> u64 {
@@ -317,28 +325,35 @@ fn start_number(s: Started) -> u64 {
 }
 
 // A start in the first k of four words: its number, and the words afterwards.
-fn started(t: Tally, k: usize, kind: RowKind, want: u64, after: [u64; 4]) -> Tally
+fn started(
+    rt: &impl Print,
+    t: Tally,
+    k: usize,
+    kind: RowKind,
+    want: u64,
+    after: [u64; 4],
+) -> io::Result<Tally>
     requires { k ≤ 4 }
 {
     let mut m = [77u64; 4];
     let mut r = t;
-    r = compare(r, start_number(start(&mut m[0..k], kind)), want);
-    r = compare(r, m[0], after[0]);
-    r = compare(r, m[1], after[1]);
-    r = compare(r, m[2], after[2]);
-    r = compare(r, m[3], after[3]);
-    r
+    r = compare(rt, r, start_number(start(&mut m[0..k], kind)), want)?;
+    r = compare(rt, r, m[0], after[0])?;
+    r = compare(rt, r, m[1], after[1])?;
+    r = compare(rt, r, m[2], after[2])?;
+    r = compare(rt, r, m[3], after[3])?;
+    Ok(r)
 }
 
 // A start changes the two first words and no other, and nothing where it is refused.
-fn starts(t: Tally) -> Tally {
+fn starts(rt: &impl Print, t: Tally) -> io::Result<Tally> {
     let mut r = t;
-    r = started(r, 0, RowKind::Dual, NOT_CIRCUIT, [77, 77, 77, 77]);
-    r = started(r, 1, RowKind::Dual, NOT_CIRCUIT, [77, 77, 77, 77]);
-    r = started(r, 2, RowKind::Single, 0, [1, 0, 77, 77]);
-    r = started(r, 2, RowKind::Dual, 0, [2, 0, 77, 77]);
-    r = started(r, 4, RowKind::Dual, 0, [2, 0, 77, 77]);
-    r
+    r = started(rt, r, 0, RowKind::Dual, NOT_CIRCUIT, [77, 77, 77, 77])?;
+    r = started(rt, r, 1, RowKind::Dual, NOT_CIRCUIT, [77, 77, 77, 77])?;
+    r = started(rt, r, 2, RowKind::Single, 0, [1, 0, 77, 77])?;
+    r = started(rt, r, 2, RowKind::Dual, 0, [2, 0, 77, 77])?;
+    r = started(rt, r, 4, RowKind::Dual, 0, [2, 0, 77, 77])?;
+    Ok(r)
 }
 
 // Writes place i, if it is lent.
@@ -374,44 +389,41 @@ fn chain(m: &mut [u64], n: usize, kind: u64) {
 }
 
 // 4,096 nodes and 4,097; the deepest chain, which falls, and the longest cycle.
-fn large(t: Tally) -> Tally {
+fn large(rt: &impl Print, t: Tally) -> io::Result<Tally> {
     let mut m = [0u64; 24584];
     m[0] = 1;
     let mut r = t;
     m[1] = 4096;
-    r = compare(r, number(used(&m)), 0);
-    r = compare(r, value(free(&m)), 0);
+    r = compare(rt, r, number(used(&m)), 0)?;
+    r = compare(rt, r, value(free(&m)), 0)?;
     m[1] = 4097;
-    r = compare(r, number(used(&m)), NOT_CIRCUIT);
+    r = compare(rt, r, number(used(&m)), NOT_CIRCUIT)?;
     m[1] = 4095;
-    r = compare(r, value(free(&m)), 1);
+    r = compare(rt, r, value(free(&m)), 1)?;
     m[1] = 4096;
     chain(&mut m, 4096, 0);
-    r = compare(r, number(used(&m)), 0);
+    r = compare(rt, r, number(used(&m)), 0)?;
     chain(&mut m, 4096, 4);
-    r = compare(r, number(used(&m)), NOT_CIRCUIT);
-    r
+    r = compare(rt, r, number(used(&m)), NOT_CIRCUIT)?;
+    Ok(r)
 }
 
-fn main() {
+fn main(rt: HostRuntime) -> io::Result<()> {
     let mut t = Tally {
         compared: 0,
         differed: 0,
     };
-    t = headers(t);
-    t = kinds(t);
-    t = constants(t);
-    t = indices(t);
-    t = operands(t);
-    t = rows(t);
-    t = lengths(t);
-    t = nodes(t);
-    t = ids(t);
-    t = starts(t);
-    t = large(t);
-    io::write_all(1, b"compared ");
-    io::print_decimal(1, t.compared);
-    io::write_all(1, b", of which differ ");
-    io::print_decimal(1, t.differed);
-    io::write_all(1, b"\n");
+    t = headers(&rt, t)?;
+    t = kinds(&rt, t)?;
+    t = constants(&rt, t)?;
+    t = indices(&rt, t)?;
+    t = operands(&rt, t)?;
+    t = rows(&rt, t)?;
+    t = lengths(&rt, t)?;
+    t = nodes(&rt, t)?;
+    t = ids(&rt, t)?;
+    t = starts(&rt, t)?;
+    t = large(&rt, t)?;
+    let Tally { compared, differed } = t;
+    println!(rt; "compared {compared}, of which differ {differed}")
 }

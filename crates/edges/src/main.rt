@@ -1,6 +1,7 @@
 // Document 01's edges that are run: 4,096 nodes fit and one more is FULL, columns and challenges up to 65,535, a target of 2, a column count that is
 // just enough, and the bounds of degrees and of path counts. Says what each call answers: the id, the counts, the degree, or the number of the refusal.
 #![tactic(auto)]
+
 use build_calls::calls::{base_constant, challenge, input, negate, operation, subtract, sum};
 use building::Answer;
 use circuit::calls::{free, read, start, used};
@@ -11,51 +12,36 @@ use lowering::Lowered;
 use paths::references::count_references;
 use read::degree::degree;
 use reading::answer::Degree;
+use std::io;
 
 // 4,096 places, and one more that no circuit uses.
 const WORDS: usize = 24584;
 
-fn say(what: &[u8], n: u64) {
-    io::write_all(1, what);
-    io::print_decimal(1, n);
-}
-
-fn say_answer(what: &[u8], a: Answer) {
-    io::write_all(1, what);
+fn say_answer(rt: &impl Print, what: &str, a: Answer) -> io::Result<()> {
     match a {
-        Answer::Id(i) => say(b"id ", i),
-        Answer::Refused(n) => say(b"refused ", n),
+        Answer::Id(i) => println!(rt; "{what}id {i}"),
+        Answer::Refused(n) => println!(rt; "{what}refused {n}"),
     }
-    io::write_all(1, b"\n");
 }
 
-fn say_count(what: &[u8], c: Counted) {
-    io::write_all(1, what);
+fn say_count(rt: &impl Print, what: &str, c: Counted) -> io::Result<()> {
     match c {
-        Counted::Count(n) => say(b"", n),
-        Counted::Refused(n) => say(b"refused ", n),
+        Counted::Count(n) => println!(rt; "{what}{n}"),
+        Counted::Refused(n) => println!(rt; "{what}refused {n}"),
     }
-    io::write_all(1, b"\n");
 }
 
-fn say_counts(a: u64, b: u64) {
-    say(b"main ", a);
-    say(b", auxiliary ", b);
-}
-
-fn say_lowered(what: &[u8], l: Lowered) {
-    io::write_all(1, what);
+fn say_lowered(rt: &impl Print, what: &str, l: Lowered) -> io::Result<()> {
     match l {
-        Lowered::Counts(a, b) => say_counts(a, b),
-        Lowered::Refused(n) => say(b"refused ", n),
+        Lowered::Counts(a, b) => println!(rt; "{what}main {a}, auxiliary {b}"),
+        Lowered::Refused(n) => println!(rt; "{what}refused {n}"),
     }
-    io::write_all(1, b"\n");
 }
 
-fn say_started(s: Started) {
+fn say_started(rt: &impl Print, s: Started) -> io::Result<()> {
     match s {
-        Started::Fresh => {}
-        Started::Refused(n) => say(b"start refused ", n),
+        Started::Fresh => Ok(()),
+        Started::Refused(n) => print!(rt; "start refused {n}"),
     }
 }
 
@@ -69,101 +55,116 @@ fn fill(m: &mut [u64], n: u64) {
 }
 
 // In a circuit with room for one node more than 4,096: the last that fits, and what does not fit any more. What is found needs no room.
-fn nodes() {
+fn nodes(rt: &impl Print) -> io::Result<()> {
     let mut m = [0u64; WORDS];
-    say_started(start(&mut m, RowKind::Dual));
+    say_started(rt, start(&mut m, RowKind::Dual))?;
     fill(&mut m, 4094);
-    say_answer(b"4,095th node: ", input(&mut m, Position::Main(4094)));
-    say_answer(b"two more where one fits: ", negate(&mut m, 0));
-    say_count(b"used: ", used(&m));
-    say_answer(b"4,096th node: ", operation(&mut m, Op::Add, 0, 1));
-    say_count(b"used: ", used(&m));
-    say_count(b"free: ", free(&m));
-    full(&mut m);
+    say_answer(rt, "4,095th node: ", input(&mut m, Position::Main(4094)))?;
+    say_answer(rt, "two more where one fits: ", negate(&mut m, 0))?;
+    say_count(rt, "used: ", used(&m))?;
+    say_answer(rt, "4,096th node: ", operation(&mut m, Op::Add, 0, 1))?;
+    say_count(rt, "used: ", used(&m))?;
+    say_count(rt, "free: ", free(&m))?;
+    full(rt, &mut m)
 }
 
-fn full(m: &mut [u64]) {
-    say_answer(b"4,097th node, an input: ", input(m, Position::Main(4095)));
-    say_answer(b"a constant: ", base_constant(m, 7));
-    full_operations(m);
+fn full(rt: &impl Print, m: &mut [u64]) -> io::Result<()> {
+    say_answer(
+        rt,
+        "4,097th node, an input: ",
+        input(m, Position::Main(4095)),
+    )?;
+    say_answer(rt, "a constant: ", base_constant(m, 7))?;
+    full_operations(rt, m)
 }
 
-fn full_operations(m: &mut [u64]) {
-    say_answer(b"a product: ", operation(m, Op::Multiply, 0, 1));
-    say_answer(b"a difference: ", subtract(m, 0, 1));
-    full_sums(m);
+fn full_operations(rt: &impl Print, m: &mut [u64]) -> io::Result<()> {
+    say_answer(rt, "a product: ", operation(m, Op::Multiply, 0, 1))?;
+    say_answer(rt, "a difference: ", subtract(m, 0, 1))?;
+    full_sums(rt, m)
 }
 
-fn full_sums(m: &mut [u64]) {
+fn full_sums(rt: &impl Print, m: &mut [u64]) -> io::Result<()> {
     let three = [0, 1, 2];
-    say_answer(b"a sum of three: ", sum(m, &three));
-    say_answer(b"one that is there: ", operation(m, Op::Add, 1, 0));
-    say_count(b"used: ", used(m));
+    say_answer(rt, "a sum of three: ", sum(m, &three))?;
+    say_answer(rt, "one that is there: ", operation(m, Op::Add, 1, 0))?;
+    say_count(rt, "used: ", used(m))
 }
 
 // The last column and the one beyond.
-fn columns(m: &mut [u64], name: &[u8], last: Position, beyond: Position) {
-    io::write_all(1, name);
-    say_answer(b" 65,535: ", input(m, last));
-    io::write_all(1, name);
-    say_answer(b" 65,536: ", input(m, beyond));
+fn columns(
+    rt: &impl Print,
+    m: &mut [u64],
+    name: &str,
+    last: Position,
+    beyond: Position,
+) -> io::Result<()> {
+    print!(rt; "{name}")?;
+    say_answer(rt, " 65,535: ", input(m, last))?;
+    print!(rt; "{name}")?;
+    say_answer(rt, " 65,536: ", input(m, beyond))
 }
 
-fn main_columns(m: &mut [u64]) {
+fn main_columns(rt: &impl Print, m: &mut [u64]) -> io::Result<()> {
     columns(
+        rt,
         m,
-        b"main column",
+        "main column",
         Position::Main(65535),
         Position::Main(65536),
-    );
+    )?;
     columns(
+        rt,
         m,
-        b"next main column",
+        "next main column",
         Position::NextMain(65535),
         Position::NextMain(65536),
-    );
+    )
 }
 
-fn aux_columns(m: &mut [u64]) {
+fn aux_columns(rt: &impl Print, m: &mut [u64]) -> io::Result<()> {
     columns(
+        rt,
         m,
-        b"auxiliary column",
+        "auxiliary column",
         Position::Aux(65535),
         Position::Aux(65536),
-    );
+    )?;
     columns(
+        rt,
         m,
-        b"next auxiliary column",
+        "next auxiliary column",
         Position::NextAux(65535),
         Position::NextAux(65536),
-    );
+    )
 }
 
 // Columns and challenges of a dual-row circuit.
-fn indices() {
+fn indices(rt: &impl Print) -> io::Result<()> {
     let mut m = [0u64; 128];
-    say_started(start(&mut m, RowKind::Dual));
-    main_columns(&mut m);
-    aux_columns(&mut m);
-    say_answer(b"challenge 65,535: ", challenge(&mut m, 65535));
-    say_answer(b"challenge 65,536: ", challenge(&mut m, 65536));
-    say_count(b"used: ", used(&m));
+    say_started(rt, start(&mut m, RowKind::Dual))?;
+    main_columns(rt, &mut m)?;
+    aux_columns(rt, &mut m)?;
+    say_answer(rt, "challenge 65,535: ", challenge(&mut m, 65535))?;
+    say_answer(rt, "challenge 65,536: ", challenge(&mut m, 65536))?;
+    say_count(rt, "used: ", used(&m))
 }
 
 // x⁴ by two squarings, x the main column 0, lowered to a target with a main count.
-fn lowering(what: &[u8], target: u64, count: u64) {
+fn lowering(rt: &impl Print, what: &str, target: u64, count: u64) -> io::Result<()> {
     let mut m = [0u64; 128];
     let mut roots = [2u64; 1];
     let mut main = [0u64; 4];
     let mut aux = [0u64; 4];
-    say_started(start(&mut m, RowKind::Single));
+    say_started(rt, start(&mut m, RowKind::Single))?;
     input(&mut m, Position::Main(0));
     operation(&mut m, Op::Multiply, 0, 0);
     operation(&mut m, Op::Multiply, 1, 1);
     say_lowered(
+        rt,
         what,
         lower(&mut m, &mut roots, target, count, 0, &mut main, &mut aux),
-    );
+    )
 }
 
 fn id_of(a: Answer) -> u64 {
@@ -194,33 +195,24 @@ fn join(m: &mut [u64], o: Op, n: u64) -> u64 {
 }
 
 // Whether a degree that is told is the right one.
-fn say_equal(n: i64, right: i64) {
-    if n == right {
-        io::write_all(1, b"told");
-    } else {
-        io::write_all(1, b"another is told");
-    }
-}
-
-fn say_degree(what: &[u8], d: Degree, right: i64) {
-    io::write_all(1, what);
+fn say_degree(rt: &impl Print, what: &str, d: Degree, right: i64) -> io::Result<()> {
     match d {
-        Degree::Found(n) => say_equal(n, right),
-        Degree::Refused(n) => say(b"refused ", n),
+        Degree::Found(n) if n == right => println!(rt; "{what}told"),
+        Degree::Found(_) => println!(rt; "{what}another is told"),
+        Degree::Refused(n) => println!(rt; "{what}refused {n}"),
     }
-    io::write_all(1, b"\n");
 }
 
 // x^(2^31 - 1), and x times that.
-fn degrees() {
+fn degrees(rt: &impl Print) -> io::Result<()> {
     let mut m = [0u64; 512];
-    say_started(start(&mut m, RowKind::Single));
+    say_started(rt, start(&mut m, RowKind::Single))?;
     input(&mut m, Position::Main(0));
     double(&mut m, Op::Multiply, 0, 30);
     let top = join(&mut m, Op::Multiply, 30);
-    say_degree(b"degree 2,147,483,647: ", degree(&m, top), 2147483647);
+    say_degree(rt, "degree 2,147,483,647: ", degree(&m, top), 2147483647)?;
     let over = id_of(operation(&mut m, Op::Multiply, top, 0));
-    say_degree(b"degree 2,147,483,648: ", degree(&m, over), 2147483648);
+    say_degree(rt, "degree 2,147,483,648: ", degree(&m, over), 2147483648)
 }
 
 fn references_of(n: NodeRead) -> u64 {
@@ -231,59 +223,60 @@ fn references_of(n: NodeRead) -> u64 {
 }
 
 // The paths from the roots to node 0, counted.
-fn say_paths(what: &[u8], m: &mut [u64], roots: &[u64]) {
-    io::write_all(1, what);
+fn say_paths(rt: &impl Print, what: &str, m: &mut [u64], roots: &[u64]) -> io::Result<()> {
     match count_references(m, roots) {
-        walking::Counted::Written => say(b"", references_of(read(m, 0))),
-        walking::Counted::Refused(n) => say(b"refused ", n),
+        walking::Counted::Written => {
+            let n = references_of(read(m, 0));
+            println!(rt; "{what}{n}")
+        }
+        walking::Counted::Refused(n) => println!(rt; "{what}refused {n}"),
     }
-    io::write_all(1, b"\n");
 }
 
 // (2^32 - 1)·x as a sum, and x added to that.
-fn paths() {
+fn paths(rt: &impl Print) -> io::Result<()> {
     let mut m = [0u64; 512];
-    say_started(start(&mut m, RowKind::Single));
+    say_started(rt, start(&mut m, RowKind::Single))?;
     input(&mut m, Position::Main(0));
     double(&mut m, Op::Add, 0, 31);
     let top = join(&mut m, Op::Add, 31);
-    say_paths(b"4,294,967,295 paths: ", &mut m, &[top]);
+    say_paths(rt, "4,294,967,295 paths: ", &mut m, &[top])?;
     let over = id_of(operation(&mut m, Op::Add, top, 0));
-    say_paths(b"4,294,967,296 paths: ", &mut m, &[over]);
-    say_paths(b"the same root twice: ", &mut m, &[over, over]);
+    say_paths(rt, "4,294,967,296 paths: ", &mut m, &[over])?;
+    say_paths(rt, "the same root twice: ", &mut m, &[over, over])
 }
 
-fn say_lowering(what: &[u8], m: &mut [u64], roots: &mut [u64]) {
+fn say_lowering(rt: &impl Print, what: &str, m: &mut [u64], roots: &mut [u64]) -> io::Result<()> {
     let mut main = [0u64; 64];
     let mut aux = [0u64; 64];
-    say_lowered(what, lower(m, roots, 2, 2, 0, &mut main, &mut aux));
+    say_lowered(rt, what, lower(m, roots, 2, 2, 0, &mut main, &mut aux))
 }
 
 // x³, doubled 31 times, is high each time: x² has 1 + 2 + 4 + .. = 2^32 - 1 occurrences, and one more below x²·y.
-fn occurrences() {
+fn occurrences(rt: &impl Print) -> io::Result<()> {
     let mut m = [0u64; 1024];
-    say_started(start(&mut m, RowKind::Single));
+    say_started(rt, start(&mut m, RowKind::Single))?;
     input(&mut m, Position::Main(0));
     operation(&mut m, Op::Multiply, 0, 0);
     operation(&mut m, Op::Multiply, 1, 0);
     double(&mut m, Op::Add, 2, 33);
     let y = id_of(input(&mut m, Position::Main(1)));
     let other = id_of(operation(&mut m, Op::Multiply, 1, y));
-    say_lowering(b"4,294,967,296 occurrences: ", &mut m, &mut [33, other]);
-    say_lowering(b"4,294,967,295 occurrences: ", &mut m, &mut [33]);
+    say_lowering(rt, "4,294,967,296 occurrences: ", &mut m, &mut [33, other])?;
+    say_lowering(rt, "4,294,967,295 occurrences: ", &mut m, &mut [33])
 }
 
-fn main() {
-    nodes();
-    indices();
-    lowering(b"target 1: ", 1, 1);
-    lowering(b"target 2: ", 2, 1);
-    lowering(b"target 2, main count 0: ", 2, 0);
-    lowering(b"target 4, nothing to lower, main count 0: ", 4, 0);
-    lowering(b"target 2, main count 65,533: ", 2, 65533);
-    lowering(b"target 2, main count 65,534: ", 2, 65534);
-    lowering(b"target 2, main count 65,535: ", 2, 65535);
-    degrees();
-    paths();
-    occurrences();
+fn main(rt: HostRuntime) -> io::Result<()> {
+    nodes(&rt)?;
+    indices(&rt)?;
+    lowering(&rt, "target 1: ", 1, 1)?;
+    lowering(&rt, "target 2: ", 2, 1)?;
+    lowering(&rt, "target 2, main count 0: ", 2, 0)?;
+    lowering(&rt, "target 4, nothing to lower, main count 0: ", 4, 0)?;
+    lowering(&rt, "target 2, main count 65,533: ", 2, 65533)?;
+    lowering(&rt, "target 2, main count 65,534: ", 2, 65534)?;
+    lowering(&rt, "target 2, main count 65,535: ", 2, 65535)?;
+    degrees(&rt)?;
+    paths(&rt)?;
+    occurrences(&rt)
 }

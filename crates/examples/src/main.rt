@@ -1,13 +1,16 @@
 // Runs the files of data/ through the frame program's own function, or those of rows through the program `fill`'s, each from a fresh state, and compares
 // the answers with the files beside them. Says how many inputs were compared and how many differ.
 #![tactic(auto)]
-ghost use Rattle.std.specs.Prelude.{◌+◌, ◌≤◌, ◌≡◌, length};
+
+ghost use Rattle.std.specs.Prelude.{◌+◌, ◌≤◌, ◌≡◌, length, IfOk};
 ghost use Rattle.kept.specs.Keeps.{Keeps};
 
 use classes::least::LEAST;
 use classes::table::TABLE;
 use desk_line::feed as rows;
-use libc::STDOUT_FILENO;
+use inputs::read_full;
+use std::fs::Files;
+use std::{fs, io};
 use stream::feed::{LIST, MOST_CHARACTERS, NUMBERS, ROOTS, WORDS, answer_line, feed};
 
 // What an answer may take; the longest file.
@@ -80,7 +83,7 @@ fn answered(input: &[u8], want: &[u8]) -> bool {
         &mut out,
         fed.step.at,
     );
-    check::same(&out[..end], want)
+    &out[..end] == want
 }
 
 // The same of the program `fill`. Each line of these files ends, and each answer has room.
@@ -115,82 +118,82 @@ fn filled(input: &[u8], want: &[u8]) -> bool {
         step,
     );
     let end = fed.step.at;
-    check::same(&out[..end], want)
+    &out[..end] == want
 }
 
-fn differs(right: bool, name: &[u8]) -> u64
-    ensures { result ≤ 1 }
+fn differs(rt: &impl Print, right: bool, name: &str) -> io::Result<u64>
+    ensures { IfOk result (λ n. n ≤ 1) }
 {
-    io::write_all(STDOUT_FILENO, name);
     if right {
-        io::write_all(STDOUT_FILENO, b" agrees\n");
-        return 0;
+        println!(rt; "{name} agrees")?;
+        return Ok(0);
     }
-    io::write_all(STDOUT_FILENO, b" DIFFERS\n");
-    1
+    println!(rt; "{name} DIFFERS")?;
+    Ok(1)
 }
 
 // A file of frames, or with rows, and the file of its answers.
-fn file(frames: &[u8], answers: &[u8], with_rows: bool) -> u64
-    ensures { result ≤ 1 }
+fn file<R: Files + Print>(rt: &R, frames: &str, answers: &str, with_rows: bool) -> io::Result<u64>
+    ensures { IfOk result (λ n. n ≤ 1) }
 {
     let mut input = [0u8; FILE];
     let mut want = [0u8; FILE];
-    let from = os::open_read(frames);
-    let n = io::read_full(from, &mut input);
-    libc::close(from);
-    let with = os::open_read(answers);
-    let k = io::read_full(with, &mut want);
-    libc::close(with);
-    if from < 0 {
-        return differs(false, frames);
-    }
-    if with < 0 {
-        return differs(false, answers);
-    }
-    if with_rows {
-        return differs(filled(&input[..n], &want[..k]), frames);
-    }
-    differs(answered(&input[..n], &want[..k]), frames)
+    let n = match fs::open(rt, frames) {
+        Ok(mut from) => read_full(&mut from, &mut input)?,
+        Err(_) => return differs(rt, false, frames),
+    };
+    let k = match fs::open(rt, answers) {
+        Ok(mut with) => read_full(&mut with, &mut want)?,
+        Err(_) => return differs(rt, false, answers),
+    };
+    let right = if with_rows {
+        filled(&input[..n], &want[..k])
+    } else {
+        answered(&input[..n], &want[..k])
+    };
+    differs(rt, right, frames)
 }
 
 // Circuits.
-fn circuits() -> u64
-    ensures { result ≤ 4 }
+fn circuits<R: Files + Print>(rt: &R) -> io::Result<u64>
+    ensures { IfOk result (λ n. n ≤ 4) }
 {
-    let a = file(b"x4.txt", b"x4.answers", false) + file(b"x2a2.txt", b"x2a2.answers", false);
-    let b = file(b"two_rows.txt", b"two_rows.answers", false)
-        + file(b"next_row_columns.txt", b"next_row_columns.answers", false);
-    a + b
+    let a = file(rt, "x4.txt", "x4.answers", false)? + file(rt, "x2a2.txt", "x2a2.answers", false)?;
+    let b = file(rt, "two_rows.txt", "two_rows.answers", false)?
+        + file(
+            rt,
+            "next_row_columns.txt",
+            "next_row_columns.answers",
+            false,
+        )?;
+    Ok(a + b)
 }
 
 // Refusals, and lines that are hard to read.
-fn lines() -> u64
-    ensures { result ≤ 6 }
+fn lines<R: Files + Print>(rt: &R) -> io::Result<u64>
+    ensures { IfOk result (λ n. n ≤ 6) }
 {
-    let a = file(b"refused.txt", b"refused.answers", false)
-        + file(b"no_frames.txt", b"no_frames.answers", false);
-    let b = file(b"roots.txt", b"roots.answers", false)
-        + file(b"bytes.txt", b"bytes.answers", false);
-    let c = file(b"empty.txt", b"empty.answers", false)
-        + file(b"no_line_feed.txt", b"no_line_feed.answers", false);
-    a + b + c
+    let a = file(rt, "refused.txt", "refused.answers", false)?
+        + file(rt, "no_frames.txt", "no_frames.answers", false)?;
+    let b = file(rt, "roots.txt", "roots.answers", false)?
+        + file(rt, "bytes.txt", "bytes.answers", false)?;
+    let c = file(rt, "empty.txt", "empty.answers", false)?
+        + file(rt, "no_line_feed.txt", "no_line_feed.answers", false)?;
+    Ok(a + b + c)
 }
 
 // Rows of x⁴, of a circuit of two rows, of one that reads a challenge; bad lines, each before one that is answered.
-fn with_rows() -> u64
-    ensures { result ≤ 4 }
+fn with_rows<R: Files + Print>(rt: &R) -> io::Result<u64>
+    ensures { IfOk result (λ n. n ≤ 4) }
 {
-    let a = file(b"fill_x4.txt", b"fill_x4.answers", true)
-        + file(b"fill_two_rows.txt", b"fill_two_rows.answers", true);
-    let b = file(b"fill_challenges.txt", b"fill_challenges.answers", true)
-        + file(b"fill_refused.txt", b"fill_refused.answers", true);
-    a + b
+    let a = file(rt, "fill_x4.txt", "fill_x4.answers", true)?
+        + file(rt, "fill_two_rows.txt", "fill_two_rows.answers", true)?;
+    let b = file(rt, "fill_challenges.txt", "fill_challenges.answers", true)?
+        + file(rt, "fill_refused.txt", "fill_refused.answers", true)?;
+    Ok(a + b)
 }
 
-fn main() {
-    let differ = circuits() + lines() + with_rows();
-    io::write_all(STDOUT_FILENO, b"14 compared, ");
-    io::print_decimal(STDOUT_FILENO, differ);
-    io::write_all(STDOUT_FILENO, b" differ\n");
+fn main(rt: HostRuntime) -> io::Result<()> {
+    let differ = circuits(&rt)? + lines(&rt)? + with_rows(&rt)?;
+    println!(rt; "14 compared, {differ} differ")
 }

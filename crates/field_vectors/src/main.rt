@@ -1,11 +1,13 @@
 // Compares the two fields with answers that were worked out elsewhere: records from standard input, one a line, as
 // bench/field/vectors.py writes them. Prints how many were compared and how many disagree.
 #![tactic(auto)]
+
 ghost use Rattle.std.specs.Prelude.{◌+◌, ◌<◌, ◌≤◌, length};
 
 use arithmetic::{Triple, Unlifted};
 use field::{base, extension};
-use libc::{STDIN_FILENO, STDOUT_FILENO};
+use inputs::read_full;
+use std::io;
 
 // A record: one character, nine words of 16 digits, and the line feed.
 const RECORD: usize = 146;
@@ -129,21 +131,20 @@ fn compare(s: &[u8], before: Tally) -> Tally {
     tally
 }
 
-fn main() {
+fn main(rt: HostRuntime) -> io::Result<()> {
     let mut tally = Tally {
         compared: 0,
         disagree: 0,
     };
+    let mut input = rt.stdin();
     let mut part = [0u8; PART];
     // A proved loop has to end, and nothing says that the input does.
     let mut turns: u32 = 1000;
     while turns > 0 {
-        let n = io::read_full(STDIN_FILENO, &mut part);
+        let n = read_full(&mut input, &mut part)?;
         tally = compare(&part[..n], tally);
         turns = if n < PART { 0 } else { turns - 1 };
     }
-    io::print_decimal(STDOUT_FILENO, tally.compared as u64);
-    io::write_all(STDOUT_FILENO, b" compared, ");
-    io::print_decimal(STDOUT_FILENO, tally.disagree as u64);
-    io::write_all(STDOUT_FILENO, b" disagree\n");
+    let Tally { compared, disagree } = tally;
+    println!(rt; "{compared} compared, {disagree} disagree")
 }

@@ -1,8 +1,10 @@
 // The program `fill` (docs/FILL.md): the frame program's lines, and rows whose new columns it fills, one a line. Answers as soon as lines have been read;
 // its memory is constant.
 #![tactic(auto)]
-ghost use Rattle.std.specs.Prelude.{◌≤◌, length, take};
+
+ghost use Rattle.std.specs.Prelude.{◌≤◌, length, take, IfOk};
 ghost use Rattle.framing.specs.States.{lent};
+ghost use Rattle.kept.specs.Keeps.{Keeps};
 ghost use Rattle.stream.specs.Stream.{stream, Roomy, Poured};
 ghost use Rattle.desk.specs.Desks.{desk};
 ghost use Rattle.desk_line.specs.Feeds.{fill_program, fill_room, Deskable};
@@ -12,7 +14,8 @@ use classes::table::TABLE;
 use desk_line::feed::{
     CHALLENGES, MOST_CHARACTERS, ROW_AUX, ROW_MAIN, Step, answer_line, feed, start,
 };
-use libc::{STDIN_FILENO, STDOUT_FILENO};
+use std::io;
+use std::io::Read;
 use stream::feed::{LIST, NUMBERS, ROOTS, WORDS};
 
 const PART: usize = 65536;
@@ -20,7 +23,9 @@ const PART: usize = 65536;
 const OUT: usize = 131072;
 
 // Feeds a part of the input, and writes the answers whenever there is no room for one more. What is kept then.
+// After a failed write some of the part has been fed.
 fn pour(
+    rt: &impl Print,
     m: &mut [u64],
     roots: &mut [u64],
     main: &mut [u64],
@@ -35,9 +40,10 @@ fn pour(
     part: &[u8],
     out: &mut [u8],
     kept: Step,
-) -> Step
+) -> io::Result<Step>
     requires { Roomy 131075 line.old kept.kept fill_room out.old 0 × Deskable m.old numbers.old table.old least.old main.old aux.old challenges.old kept.given row_main.old row_aux.old }
-    ensures { Poured fill_program (stream (desk (lent m.old roots.old main.old aux.old) kept.latest (take kept.given challenges.old)) (take kept.kept line.old)) part.now (desk (lent m.new roots.new main.new aux.new) result.latest (take result.given challenges.new)) line.new result.kept × Deskable m.new numbers.new table.new least.new main.new aux.new challenges.new result.given row_main.new row_aux.new }
+    ensures poured { IfOk result (λ s. Poured fill_program (stream (desk (lent m.old roots.old main.old aux.old) kept.latest (take kept.given challenges.old)) (take kept.kept line.old)) part.now (desk (lent m.new roots.new main.new aux.new) s.latest (take s.given challenges.new)) line.new s.kept × Deskable m.new numbers.new table.new least.new main.new aux.new challenges.new s.given row_main.new row_aux.new) }
+    ensures keeps { Keeps m.new numbers.new table.new least.new }
 {
     let mut s = kept;
     let mut from: usize = 0;
@@ -60,14 +66,15 @@ fn pour(
         );
         s = fed.step;
         let written = s.at;
-        io::write_all(STDOUT_FILENO, &out[..written]);
+        rt.write_all(&out[..written])?;
         from += fed.taken;
     }
-    s
+    Ok(s)
 }
 
 // What follows the last line feed is a line if it isn't empty.
 fn finish(
+    rt: &impl Print,
     m: &mut [u64],
     roots: &mut [u64],
     main: &mut [u64],
@@ -81,11 +88,11 @@ fn finish(
     line: &[u8],
     out: &mut [u8],
     kept: Step,
-)
+) -> io::Result<()>
     requires { (fill_room ≤ length out.old) × Deskable m.old numbers.old table.old least.old main.old aux.old challenges.old kept.given row_main.old row_aux.old }
 {
     if line.len() == 0 {
-        return;
+        return Ok(());
     }
     let latest = kept.latest;
     let s = Step {
@@ -98,11 +105,13 @@ fn finish(
         m, roots, main, aux, numbers, table, least, challenges, row_main, row_aux, line, out, s,
     );
     let n = last.at;
-    io::write_all(STDOUT_FILENO, &out[..n]);
+    rt.write_all(&out[..n])
 }
 
 // Answers all of the input, with memory that has not been used yet.
-fn serve(
+fn serve<R: Read>(
+    rt: &impl Print,
+    input: &mut R,
     m: &mut [u64],
     roots: &mut [u64],
     main: &mut [u64],
@@ -116,30 +125,30 @@ fn serve(
     line: &mut [u8],
     part: &mut [u8],
     out: &mut [u8],
-)
+) -> io::Result<()>
     requires { Roomy 131075 line.old 0 fill_room out.old 0 × Deskable m.old numbers.old table.old least.old main.old aux.old challenges.old 0 row_main.old row_aux.old }
 {
     let mut s = start();
     // A proved loop has to end, and nothing says that the input does: no input takes so many turns.
     let mut turns = u64::MAX;
     while turns > 0 {
-        let got = libc::read(STDIN_FILENO, part);
-        let n = io::count(got, part);
+        let n = input.read(part)?;
         turns = if n == 0 { 0 } else { turns - 1 };
         let p = &part[..n];
         s = pour(
-            m, roots, main, aux, numbers, table, least, challenges, row_main, row_aux, line, p,
+            rt, m, roots, main, aux, numbers, table, least, challenges, row_main, row_aux, line, p,
             out, s,
-        );
+        )?;
     }
     let kept = s.kept;
     let line = &line[..kept];
     finish(
-        m, roots, main, aux, numbers, table, least, challenges, row_main, row_aux, line, out, s,
-    );
+        rt, m, roots, main, aux, numbers, table, least, challenges, row_main, row_aux, line, out, s,
+    )
 }
 
-fn main() {
+fn main(rt: HostRuntime) -> io::Result<()> {
+    let mut input = rt.stdin();
     let mut m = [0u64; WORDS];
     let mut roots = [0u64; ROOTS];
     let mut main = [0u64; LIST];
@@ -154,6 +163,8 @@ fn main() {
     let mut part = [0u8; PART];
     let mut out = [0u8; OUT];
     serve(
+        &rt,
+        &mut input,
         &mut m,
         &mut roots,
         &mut main,
@@ -167,5 +178,5 @@ fn main() {
         &mut line,
         &mut part,
         &mut out,
-    );
+    )
 }

@@ -1,5 +1,6 @@
 // Fills rows of the frozen circuits after each of their lowerings, and evaluates on them. Says what was tried, and how much isn't as it has to be.
 #![tactic(auto)]
+
 mod calls;
 mod text;
 mod trial;
@@ -9,9 +10,15 @@ ghost use Rattle.std.specs.Prelude.{◌+◌, ◌<◌, ◌≤◌, length};
 
 use crate::calls::{LISTED, WORDS, record};
 use crate::words::{BEFORE, CIRCUITS, CONSTRAINTS, DIFFER, LOWERINGS, ROOTS, ROWS, TALLY, get};
+use inputs::{argument, opened, read_full};
+use std::fs::Files;
+use std::io;
 
 // The longest file.
 const FILE: usize = 65536;
+
+// The longest name of a file.
+const NAME: usize = 4096;
 
 // Character i is looked at: where it ends a line, that is a record. Answers where the line begins that is read next.
 fn step(t: &mut [u64], m: &mut [u64], roots: &mut [u64], s: &[u8], at: usize, i: usize) -> usize
@@ -35,44 +42,44 @@ fn lines(t: &mut [u64], m: &mut [u64], roots: &mut [u64], s: &[u8]) {
     }
 }
 
-fn say(n: u64, what: &[u8]) {
-    io::print_decimal(1, n);
-    io::write_all(1, what);
+fn say(rt: &impl Print, n: u64, what: &str) -> io::Result<()> {
+    print!(rt; "{n}{what}")
 }
 
-fn report(t: &[u64]) {
-    say(get(t, CIRCUITS), b" circuits, ");
-    say(get(t, LOWERINGS), b" lowerings, ");
-    say(get(t, ROWS), b" rows, ");
-    say(get(t, CONSTRAINTS), b" constraints (zero before: ");
-    say(get(t, BEFORE), b"), ");
-    say(get(t, ROOTS), b" roots; ");
-    say(get(t, DIFFER), b" differ\n");
+fn report(rt: &impl Print, t: &[u64]) -> io::Result<()> {
+    say(rt, get(t, CIRCUITS), " circuits, ")?;
+    say(rt, get(t, LOWERINGS), " lowerings, ")?;
+    say(rt, get(t, ROWS), " rows, ")?;
+    say(rt, get(t, CONSTRAINTS), " constraints (zero before: ")?;
+    say(rt, get(t, BEFORE), "), ")?;
+    say(rt, get(t, ROOTS), " roots; ")?;
+    say(rt, get(t, DIFFER), " differ\n")
 }
 
-fn run(s: &[u8]) {
+fn run(rt: &impl Print, s: &[u8]) -> io::Result<()> {
     let mut t = [0u64; TALLY];
     let mut m = [0u64; WORDS];
     let mut roots = [0u64; LISTED];
     lines(&mut t, &mut m, &mut roots, s);
-    report(&t);
+    report(rt, &t)
 }
 
-fn file(name: &[u8]) {
+// A file that isn't there has no lines.
+fn file<R: Files + Print>(rt: &R, name: &[u8]) -> io::Result<()> {
     let mut s = [0u8; FILE];
-    let fd = os::open_read(name);
-    let n = io::read_full(fd, &mut s);
-    libc::close(fd);
-    run(&s[..n]);
+    let n = match opened(rt, name) {
+        Some(mut file) => read_full(&mut file, &mut s)?,
+        None => 0,
+    };
+    run(rt, &s[..n])
 }
 
 // The file that the argument names, or the one of this folder.
-fn main() {
-    let mut name = io::buffer();
-    let n = os::arg(1, &mut name);
+fn main(rt: HostRuntime) -> io::Result<()> {
+    let mut name = [0u8; NAME];
+    let n = argument(&rt, 1, &mut name);
     if n == 0 {
-        file(b"circuits.txt");
-    } else {
-        file(&name[..n]);
+        return file(&rt, b"circuits.txt");
     }
+    file(&rt, &name[..n])
 }

@@ -116,7 +116,7 @@ fn compare_sum(t: &mut [u64], line: &[u8]) {
 fn compare_answer(t: &mut [u64], answer: &[u8], line: &[u8]) {
     let n = get(t, ANSWER);
     let text = before(answer, std::num::wrapping_sub_u64(n, 1) as usize);
-    compare(t, flag(check::same(text, after(line, 1))), 1);
+    compare(t, flag(text == after(line, 1)), 1);
 }
 
 // The answer to the call before it.

@@ -1,10 +1,14 @@
 // A file, a part at a time, as lines.
-ghost use Rattle.std.specs.Prelude.{◌+◌, ◌<◌, ◌≤◌, length};
+ghost use Rattle.std.specs.Prelude.{◌+◌, ◌<◌, ◌≤◌, length, IfOk};
 
 use crate::records::record;
+use inputs::read_full;
+use std::io;
+use std::io::Read;
 
 // Character i is looked at: where it ends a line, that is a record. Answers where the line begins that is read next.
 fn step(
+    rt: &impl Print,
     t: &mut [u64],
     m: &mut [u64],
     roots: &mut [u64],
@@ -14,19 +18,20 @@ fn step(
     s: &[u8],
     at: usize,
     i: usize,
-) -> usize
+) -> io::Result<usize>
     requires { (at ≤ i) × (i < length s.now) }
-    ensures { result ≤ i + 1 }
+    ensures { IfOk result (λ next. next ≤ i + 1) }
 {
     if s[i] == b'\n' {
-        record(t, m, roots, answer, tables, list, &s[at..i]);
-        return i + 1;
+        record(rt, t, m, roots, answer, tables, list, &s[at..i])?;
+        return Ok(i + 1);
     }
-    at
+    Ok(at)
 }
 
 // The records of the whole lines of the first `end` bytes: how many bytes these are.
 fn lines(
+    rt: &impl Print,
     t: &mut [u64],
     m: &mut [u64],
     roots: &mut [u64],
@@ -35,17 +40,17 @@ fn lines(
     list: &mut [u64],
     s: &[u8],
     end: usize,
-) -> usize
+) -> io::Result<usize>
     requires { end ≤ length s.now }
-    ensures { result ≤ end }
+    ensures { IfOk result (λ at. at ≤ end) }
 {
     let mut at: usize = 0;
     let mut i: usize = 0;
     while i < end {
-        at = step(t, m, roots, answer, tables, list, s, at, i);
+        at = step(rt, t, m, roots, answer, tables, list, s, at, i)?;
         i += 1;
     }
-    at
+    Ok(at)
 }
 
 // Moves the bytes from `from` to `end` to the front.
@@ -60,11 +65,11 @@ fn shift(s: &mut [u8], from: usize, end: usize)
 }
 
 // Reads behind the bytes that are kept: how many there are then.
-fn fill(fd: i32, part: &mut [u8], kept: usize) -> usize
+fn fill<R: Read>(file: &mut R, part: &mut [u8], kept: usize) -> io::Result<usize>
     requires { kept ≤ length part.old }
-    ensures { (kept ≤ result) × (result ≤ length part.new) }
+    ensures { IfOk result (λ end. (kept ≤ end) × (end ≤ length part.new)) }
 {
-    kept + io::read_full(fd, &mut part[kept..])
+    Ok(kept + read_full(file, &mut part[kept..])?)
 }
 
 // How many turns are left.
@@ -79,8 +84,9 @@ fn left(turns: u64, ended: bool) -> u64
 }
 
 // All lines of a file. A proved loop has to end, and nothing says that the file does.
-pub(crate) fn replay(
-    fd: i32,
+pub(crate) fn replay<R: Read>(
+    rt: &impl Print,
+    file: &mut R,
     part: &mut [u8],
     t: &mut [u64],
     m: &mut [u64],
@@ -88,14 +94,15 @@ pub(crate) fn replay(
     answer: &mut [u8],
     tables: &mut [u64],
     list: &mut [u64],
-) {
+) -> io::Result<()> {
     let mut kept: usize = 0;
     let mut turns: u64 = 100000;
     while turns > 0 {
-        let end = fill(fd, part, kept);
-        let at = lines(t, m, roots, answer, tables, list, part, end);
+        let end = fill(file, part, kept)?;
+        let at = lines(rt, t, m, roots, answer, tables, list, part, end)?;
         shift(part, at, end);
         turns = left(turns, end == kept);
         kept = end - at;
     }
+    Ok(())
 }

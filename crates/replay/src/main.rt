@@ -1,6 +1,7 @@
 // Replays the answers of the Rust, which were frozen into files: each call again, and each reading of each dump, all compared. Says for each file
 // what was replayed, how many numbers were compared, and in how many records one differs.
 #![tactic(auto)]
+
 mod calls;
 mod cells;
 mod dumps;
@@ -16,6 +17,9 @@ use crate::tally::{
     CIRCUITS, COMPARED, DIFFER, DUMPS, ENDED, FRAMES, LOWERINGS, NODES, SUBSTITUTIONS, SUMS, TALLY,
     add, add_all, get,
 };
+use inputs::{argument, opened};
+use std::fs::Files;
+use std::io;
 
 // The words of a circuit of 512 places.
 const WORDS: usize = 3074;
@@ -26,23 +30,25 @@ const LIST: usize = 393216;
 // How much of a file is held at a time.
 const PART: usize = 65536;
 
-fn say(n: u64, what: &[u8]) {
-    io::print_decimal(1, n);
-    io::write_all(1, what);
+// The longest name of a file.
+const NAME: usize = 4096;
+
+fn say(rt: &impl Print, n: u64, what: &str) -> io::Result<()> {
+    print!(rt; "{n}{what}")
 }
 
-fn report(name: &[u8], t: &[u64]) {
-    io::write_all(1, name);
-    io::write_all(1, b": ");
-    say(get(t, CIRCUITS), b" circuits, ");
-    say(get(t, FRAMES), b" frames, ");
-    say(get(t, SUMS), b" sums, ");
-    say(get(t, LOWERINGS), b" lowerings, ");
-    say(get(t, SUBSTITUTIONS), b" substitutions, ");
-    say(get(t, DUMPS), b" dumps, ");
-    say(get(t, NODES), b" nodes; ");
-    say(get(t, COMPARED), b" numbers compared, ");
-    say(get(t, DIFFER), b" differ\n");
+fn report(rt: &impl Print, name: &[u8], t: &[u64]) -> io::Result<()> {
+    rt.write_all(name)?;
+    print!(rt; ": ")?;
+    say(rt, get(t, CIRCUITS), " circuits, ")?;
+    say(rt, get(t, FRAMES), " frames, ")?;
+    say(rt, get(t, SUMS), " sums, ")?;
+    say(rt, get(t, LOWERINGS), " lowerings, ")?;
+    say(rt, get(t, SUBSTITUTIONS), " substitutions, ")?;
+    say(rt, get(t, DUMPS), " dumps, ")?;
+    say(rt, get(t, NODES), " nodes; ")?;
+    say(rt, get(t, COMPARED), " numbers compared, ")?;
+    say(rt, get(t, DIFFER), " differ\n")
 }
 
 // A file that isn't there, or has no last record, differs.
@@ -53,7 +59,7 @@ fn finish(t: &mut [u64]) {
 }
 
 // Replays a file and adds its counts to the totals.
-fn file(name: &[u8], totals: &mut [u64]) {
+fn file<R: Files + Print>(rt: &R, name: &[u8], totals: &mut [u64]) -> io::Result<()> {
     let mut part = [0u8; PART];
     let mut t = [0u64; TALLY];
     let mut m = [0u64; WORDS];
@@ -61,43 +67,44 @@ fn file(name: &[u8], totals: &mut [u64]) {
     let mut answer = [0u8; 4107];
     let mut tables = [0u64; TABLES];
     let mut list = [0u64; LIST];
-    let fd = os::open_read(name);
-    replay(
-        fd,
-        &mut part,
-        &mut t,
-        &mut m,
-        &mut roots,
-        &mut answer,
-        &mut tables,
-        &mut list,
-    );
-    libc::close(fd);
+    if let Some(mut file) = opened(rt, name) {
+        replay(
+            rt,
+            &mut file,
+            &mut part,
+            &mut t,
+            &mut m,
+            &mut roots,
+            &mut answer,
+            &mut tables,
+            &mut list,
+        )?;
+    }
     finish(&mut t);
-    report(name, &t);
+    report(rt, name, &t)?;
     add_all(totals, &t);
+    Ok(())
 }
 
-fn all() {
+fn all<R: Files + Print>(rt: &R) -> io::Result<()> {
     let mut totals = [0u64; TALLY];
-    file(b"examples.txt", &mut totals);
-    file(b"building.txt", &mut totals);
-    file(b"single.txt", &mut totals);
-    file(b"dual.txt", &mut totals);
-    file(b"again.txt", &mut totals);
-    file(b"large.txt", &mut totals);
-    file(b"towers.txt", &mut totals);
-    report(b"all", &totals);
+    file(rt, b"examples.txt", &mut totals)?;
+    file(rt, b"building.txt", &mut totals)?;
+    file(rt, b"single.txt", &mut totals)?;
+    file(rt, b"dual.txt", &mut totals)?;
+    file(rt, b"again.txt", &mut totals)?;
+    file(rt, b"large.txt", &mut totals)?;
+    file(rt, b"towers.txt", &mut totals)?;
+    report(rt, b"all", &totals)
 }
 
 // The file that the argument names, or all of them.
-fn main() {
-    let mut name = io::buffer();
-    let n = os::arg(1, &mut name);
+fn main(rt: HostRuntime) -> io::Result<()> {
+    let mut name = [0u8; NAME];
+    let n = argument(&rt, 1, &mut name);
     if n == 0 {
-        all();
-    } else {
-        let mut totals = [0u64; TALLY];
-        file(&name[..n], &mut totals);
+        return all(&rt);
     }
+    let mut totals = [0u64; TALLY];
+    file(&rt, &name[..n], &mut totals)
 }

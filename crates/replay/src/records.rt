@@ -4,6 +4,7 @@ use crate::nodes::node;
 use crate::tally::{CALLED, DIFFER, LINE, STAGE, WRONG, add, compare_totals, get, put, turn};
 use crate::text::byte_at;
 use crate::{calls, dumps};
+use std::io;
 
 // A record of a dump that is no node.
 fn of_dump(t: &mut [u64], m: &mut [u64], roots: &[u64], list: &mut [u64], line: &[u8]) {
@@ -52,17 +53,18 @@ fn replayed(
 }
 
 // Counts and names a record that differs.
-fn judge(t: &mut [u64]) {
+fn judge(rt: &impl Print, t: &mut [u64]) -> io::Result<()> {
     if get(t, WRONG) != 0 {
         put(t, WRONG, 0);
         add(t, DIFFER, 1);
-        io::write_all(1, b"differs: line ");
-        io::print_decimal(1, get(t, LINE));
-        io::write_all(1, b"\n");
+        let line = get(t, LINE);
+        println!(rt; "differs: line {line}")?;
     }
+    Ok(())
 }
 
 pub(crate) fn record(
+    rt: &impl Print,
     t: &mut [u64],
     m: &mut [u64],
     roots: &mut [u64],
@@ -70,8 +72,8 @@ pub(crate) fn record(
     tables: &mut [u64],
     list: &mut [u64],
     line: &[u8],
-) {
+) -> io::Result<()> {
     add(t, LINE, 1);
     replayed(t, m, roots, answer, tables, list, line);
-    judge(t);
+    judge(rt, t)
 }
