@@ -13,7 +13,7 @@ starred =
     (add (p - 1) 1 ∷ [], 0 ∷ [])
     ∷ (multiply (p - 1) (p - 1) ∷ [], 1 ∷ [])
     ∷ (multiply (2 ^ 32) (2 ^ 32) ∷ [], 4294967295 ∷ [])
-    -- X-as-X² = (p-1, 1, 0). X²-as-X² = (0, p-1, 1)
+    -- X·X² = (p-1, 1, 0). X²·X² = (0, p-1, 1)
     ∷ (words (times (triple 0 1 0) (triple 0 0 1)), (p - 1) ∷ 1 ∷ 0 ∷ [])
     ∷ (words (times (triple 0 0 1) (triple 0 0 1)), 0 ∷ (p - 1) ∷ 1 ∷ [])
     -- (0,1,0) + (5,p-1,0) folds to base constant 5: node 2 of three
