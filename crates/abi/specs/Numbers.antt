@@ -1,9 +1,8 @@
 -- Row kinds and rows as numbers, as the circuit's words and the frames have them; and what is answered to a number that is none. Assumes nothing.
-use Rattle.std.specs.Prelude.{ℕ, true, List, [], ◌∷◌, eqb, ltb}
+use Rattle.std.specs.Prelude.{ℕ, true, List, [], ◌∷◌, eqb, ltb, if◌then◌else◌}
 use Rattle.layout.specs.declared.node.RowKind.TheVariants.{Single, Dual}
 use Rattle.layout.specs.declared.node.Position.{Position}
 use Rattle.layout.specs.declared.node.Position.TheVariants.{Main, Aux, NextMain, NextAux}
-use Rattle.layout.specs.Lists.{if◌then◌else◌}
 use Rattle.layout.specs.NotCircuit.{not_circuit}
 use Rattle.layout.specs.Outcomes.{Outcome, outcome}
 use Rattle.layout.specs.Calls.{start_call}

@@ -1,5 +1,6 @@
 -- What building makes of a circuit is that circuit with nodes made, one after the other: its used count never falls, and while there is room,
 -- no other word changes. Assumes nothing.
+use Rattle.std.specs.Prelude.{if◌then◌else◌}
 use Prim.Native.Nat.{ℕ, ◌+◌, ◌<◌, ◌≤◌}
 use mathlib.Core.Path.{◌≡◌, refl, ◌∙◌}
 use mathlib.Core.Logic.{inl, inr, ⊎_elim}
@@ -14,7 +15,6 @@ use Rattle.layout.specs.declared.node.Op.{Op}
 use Rattle.layout.specs.declared.node.Op.TheVariants.{Add, Multiply}
 use Rattle.layout.specs.declared.node.Expression.{Expression}
 use Rattle.layout.specs.declared.node.Expression.TheVariants.{Base, Operation}
-use Rattle.layout.specs.Lists.{if◌then◌else◌}
 use Rattle.layout.specs.Words.{used, limit, expression_at, made, constant_of, constant, is_constant, apply}
 use Rattle.circuit.proofs.Places.{made_length, made_limit}
 use Rattle.building.specs.Building.{Built, built, find, or_else, find_or_make, either_order, folded_or, folding, operate, negated, subtracted, summed_from}

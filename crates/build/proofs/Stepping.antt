@@ -1,4 +1,5 @@
 -- The laws of one step: a node that is found or made, in a circuit whose tables fit. Assumes nothing.
+use Rattle.std.specs.Prelude.{if◌then◌else◌}
 use Prim.Native.Nat.{ℕ, ◌+◌, ◌<◌}
 use mathlib.Core.Path.{◌≡◌, refl, sym, ap, ◌∙◌}
 use mathlib.Core.Bool.{Bool, true, false, ◌&&◌}
@@ -15,7 +16,6 @@ use Rattle.layout.specs.declared.node.Op.{Op}
 use Rattle.layout.specs.declared.node.Op.TheVariants.{Add, Multiply}
 use Rattle.layout.specs.declared.node.Expression.{Expression}
 use Rattle.layout.specs.declared.node.Expression.TheVariants.{Base, Extension, Challenge, Operation, Input}
-use Rattle.layout.specs.Lists.{if◌then◌else◌}
 use Rattle.layout.specs.Words.{used, limit, expression_at, registered, made, constant_of, constant, is_constant, apply}
 use Rattle.layout.specs.NotCircuit.{bad_words, bad_expression, not_circuit, either_operand}
 use Rattle.layout.specs.Tree.{tree, tree_of, same}

@@ -1,4 +1,5 @@
 -- A leaf and the nodes that have its words. Assumes nothing.
+use Rattle.std.specs.Prelude.{if◌then◌else◌}
 use Prim.Native.Nat.{ℕ, ◌<◌, ◌≤◌, ◌+◌}
 use mathlib.Core.Path.{◌≡◌, refl, sym, ap, ◌∙◌}
 use mathlib.Core.Logic.{⊎_elim}
@@ -14,7 +15,7 @@ use Rattle.layout.specs.declared.node.Op.TheVariants.{Add, Multiply}
 use Rattle.layout.specs.declared.node.Node.{Node}
 use Rattle.layout.specs.declared.node.Expression.{Expression}
 use Rattle.layout.specs.declared.node.Expression.TheVariants.{Base, Extension, Challenge, Operation, Input}
-use Rattle.layout.specs.Lists.{if◌then◌else◌, same_words, up_to, first}
+use Rattle.layout.specs.Lists.{same_words, up_to, first}
 use Rattle.layout.specs.Words.{used, limit, node_at, expression_at, registered, encode, constant, made}
 use Rattle.layout.specs.Tree.{Tree, tree_over, tree, tree_of, same}
 use Rattle.layout.proofs.Lists.{Found, first-is, first-same, clash}

@@ -1,5 +1,5 @@
 -- Document 01, "Building". A step gives the circuit after it and the id; whether it has room is FULL's matter. Assumes nothing.
-use Rattle.std.specs.Prelude.{ℕ, Bool, ◌&&◌, List, [], ◌∷◌, ltb}
+use Rattle.std.specs.Prelude.{ℕ, Bool, ◌&&◌, List, [], ◌∷◌, ltb, if◌then◌else◌}
 use Rattle.std.proofs.Math.Option.{Option, none, some}
 use Rattle.arithmetic.specs.declared.Triple.{Triple}
 use Rattle.arithmetic.specs.Base.{minus_one}
@@ -7,7 +7,7 @@ use Rattle.layout.specs.declared.node.Op.{Op}
 use Rattle.layout.specs.declared.node.Op.TheVariants.{Add, Multiply}
 use Rattle.layout.specs.declared.node.Expression.{Expression}
 use Rattle.layout.specs.declared.node.Expression.TheVariants.{Base, Operation}
-use Rattle.layout.specs.Lists.{if◌then◌else◌, first, up_to}
+use Rattle.layout.specs.Lists.{first, up_to}
 use Rattle.layout.specs.Words.{used, limit, expression_at, registered, made, constant_of, constant, is_constant, apply}
 use Rattle.layout.specs.Tree.{tree, tree_of, same}
 

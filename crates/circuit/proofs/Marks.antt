@@ -1,4 +1,5 @@
 -- The count of finished nodes, as one more is finished. Assumes nothing.
+use Rattle.std.specs.Prelude.{if◌then◌else◌}
 use mathlib.Core.Path.{◌≡◌, refl, ◌∙◌}
 use mathlib.Core.Logic.{⊎_elim}
 use mathlib.Core.List.{List}
@@ -9,7 +10,6 @@ use lib.Dec.{ltb}
 use lib.ListN.{length, set}
 use lib.Seq.{get_or-set_same, get_or-set_other}
 use borrow.Author.Tests.{lt-ltb, le-ltb}
-use Rattle.layout.specs.Lists.{if◌then◌else◌}
 use Rattle.circuit.specs.Rank.{at}
 use Rattle.circuit.specs.Walk.{finished}
 use Rattle.layout.proofs.Tests.{last_or, below_or}

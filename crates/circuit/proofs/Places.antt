@@ -1,5 +1,6 @@
 -- The laws of the places, which are used instead of the layout: what is read after a node was made, and after a word of a place was written,
 -- at that place and at the others. Assumes nothing.
+use Rattle.std.specs.Prelude.{if◌then◌else◌}
 use mathlib.Core.Path.{◌≡◌, refl, sym, ap, ◌∙◌}
 use mathlib.Core.Logic.{◌⊎◌, inl, inr, ⊎_elim, ◌≢◌}
 use mathlib.Core.Bool.{Bool, true, false}
@@ -17,7 +18,6 @@ use Rattle.layout.specs.declared.node.Op.TheVariants.{Add, Multiply}
 use Rattle.layout.specs.declared.node.Expression.{Expression}
 use Rattle.layout.specs.declared.node.Expression.TheVariants.{Base, Extension, Challenge, Operation, Input}
 use Rattle.layout.specs.declared.node.Node.{Node}
-use Rattle.layout.specs.Lists.{if◌then◌else◌}
 use Rattle.layout.specs.Words.{row_kind, used, limit, offset, word, decode, node_at, expression_at, op_kind, encode, made}
 use borrow.Author.Tests.{eqb-true}
 use Rattle.layout.proofs.Tests.{below_or}

@@ -1,11 +1,11 @@
 -- The walk that ranks the nodes, inside the check: it finishes each node after its operands. Assumes nothing.
-use Rattle.std.specs.Prelude.{ℕ, zero, suc, ◌+◌, ◌<◌, ◌≤◌, ◌≡◌, ◌⊎◌, ◌≢◌, Bool, true, false, not, List, length, ltb}
+use Rattle.std.specs.Prelude.{ℕ, zero, suc, ◌+◌, ◌<◌, ◌≤◌, ◌≡◌, ◌⊎◌, ◌≢◌, Bool, true, false, not, List, length, ltb, if◌then◌else◌}
 use Rattle.layout.specs.declared.node.Op.{Op}
 use Rattle.layout.specs.declared.node.Expression.{Expression}
 use Rattle.layout.specs.declared.node.Expression.TheVariants.{Base, Extension, Challenge, Operation, Input}
 use Rattle.circuit.specs.declared.check.Step.{Step}
 use Rattle.circuit.specs.declared.check.Step.TheVariants.{Stay, Two}
-use Rattle.layout.specs.Lists.{if◌then◌else◌, up_to, any}
+use Rattle.layout.specs.Lists.{up_to, any}
 use Rattle.layout.specs.Words.{used, expression_at}
 use Rattle.layout.specs.NotCircuit.{bad_header, bad_node, goes_on, cyclic}
 use Rattle.circuit.specs.Rank.{at, Sorted}

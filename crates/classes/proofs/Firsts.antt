@@ -1,4 +1,5 @@
 -- The laws of the least ids of the class numbers. Assumes nothing.
+use Rattle.std.specs.Prelude.{if◌then◌else◌}
 use Prim.Native.Nat.{ℕ, zero, suc, ◌+◌, ◌-◌, ◌<◌, ◌≤◌}
 use mathlib.Core.Path.{◌≡◌, refl, sym, ap, ◌∙◌}
 use mathlib.Core.Logic.{⊎_elim, ◌≢◌}
@@ -11,7 +12,7 @@ use lib.Dec.{eqb}
 use lib.ListN.{length, get_or, set, length-set, get_or-eq_default}
 use lib.Seq.{get_or-set_same, get_or-set_other}
 use borrow.Author.Tests.{eq-eqb, ne_eqb}
-use Rattle.layout.specs.Lists.{if◌then◌else◌, up_to, first}
+use Rattle.layout.specs.Lists.{up_to, first}
 use Rattle.circuit.specs.Rank.{at}
 use Rattle.layout.proofs.Tests.{last_or, below_or, same_or}
 use Rattle.layout.proofs.Lists.{clash, or_next, first_more, first_found, first-is, Found}

@@ -1,7 +1,7 @@
 -- Of each class number, the least id that has it, among all nodes or among the registered. Assumes nothing.
-use Rattle.std.specs.Prelude.{ℕ, zero, suc, ◌+◌, ◌<◌, ◌≤◌, ◌≡◌, Bool, true, ◌&&◌, List, length, set, eqb}
+use Rattle.std.specs.Prelude.{ℕ, zero, suc, ◌+◌, ◌<◌, ◌≤◌, ◌≡◌, Bool, true, ◌&&◌, List, length, set, eqb, if◌then◌else◌}
 use Rattle.std.proofs.Math.Option.{Option, none, some}
-use Rattle.layout.specs.Lists.{if◌then◌else◌, up_to, first}
+use Rattle.layout.specs.Lists.{up_to, first}
 use Rattle.circuit.specs.Rank.{at}
 
 -- a word that stands for an id, or for none: i + 1 for i, 0 for none

@@ -1,10 +1,10 @@
 -- A line that opens neither 0b nor 0c is answered as document 01's frame program answers it, and leaves its state. Assumes nothing.
+use Rattle.std.specs.Prelude.{if◌then◌else◌}
 use Prim.Native.Nat.{ℕ}
 use mathlib.Core.Path.{◌≡◌, refl, ap, ◌∙◌}
 use mathlib.Core.Bool.{Bool, true, false}
 use mathlib.Core.List.{List, [], ◌∷◌, ◌++◌}
 use lib.Dec.{eqb}
-use Rattle.layout.specs.Lists.{if◌then◌else◌}
 use Rattle.layout.specs.Words.{row_kind}
 use Rattle.framing.specs.Frames.{line_answer, answer_line, lines, answers, frames}
 use Rattle.desk.specs.Desks.{Desk, fresh_desk}

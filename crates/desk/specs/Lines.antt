@@ -1,6 +1,6 @@
 -- The program `fill`, one line: document 01's frames, then 0b challenges and 0c row. Assumes nothing.
-use Rattle.std.specs.Prelude.{ℕ, ◌+◌, ◌*◌, ◌/◌, Bool, ◌&&◌, ◌||◌, not, List, [], ◌∷◌, ◌++◌, length, get_or, take, ltb, eqb}
-use Rattle.layout.specs.Lists.{if◌then◌else◌, all, any}
+use Rattle.std.specs.Prelude.{ℕ, ◌+◌, ◌*◌, ◌/◌, Bool, ◌&&◌, ◌||◌, not, List, [], ◌∷◌, ◌++◌, length, get_or, take, ltb, eqb, if◌then◌else◌}
+use Rattle.layout.specs.Lists.{all, any}
 use Rattle.layout.specs.Words.{row_kind}
 use Rattle.layout.specs.NotCircuit.{bad_word}
 use Rattle.layout.specs.Outcomes.{Outcome, refusal}

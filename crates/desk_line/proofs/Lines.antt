@@ -1,4 +1,5 @@
 -- Laws of a line and its answer. Assumes nothing.
+use Rattle.std.specs.Prelude.{if◌then◌else◌}
 use Prim.Native.Nat.{ℕ, zero, suc, ◌≤◌}
 use mathlib.Core.Path.{◌≡◌, refl, sym, ap, ◌∙◌}
 use mathlib.Core.Bool.{Bool, true, false}
@@ -7,7 +8,6 @@ use native.Mathlib.Omega.{arith}
 use lib.ListN.{length, get_or, get_or-eq_default}
 use lib.Dec.{eqb}
 use borrow.Author.Tests.{eq-eqb, ne_eqb, eqb-false}
-use Rattle.layout.specs.Lists.{if◌then◌else◌}
 use Rattle.layout.specs.Words.{row_kind}
 use Rattle.framing.specs.declared.Reply.{Reply}
 use Rattle.framing.specs.declared.Reply.TheVariants.{Counts}

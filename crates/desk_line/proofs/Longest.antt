@@ -1,4 +1,5 @@
 -- A line longer than any frame is answered as its first 131,075 characters are; and how long an answer can be. Assumes nothing.
+use Rattle.std.specs.Prelude.{if◌then◌else◌}
 use Prim.Native.Nat.{ℕ, ◌+◌, ◌*◌, ◌/◌, ◌<◌, ◌≤◌}
 use mathlib.Core.Path.{◌≡◌, refl, sym, ap, ◌∙◌}
 use mathlib.Core.Bool.{Bool, true, false, ◌&&◌, not}
@@ -9,7 +10,7 @@ use lib.ListN.{length, take, length-append}
 use lib.Seq.{take_all, length-take-le, get_or-take}
 use lib.Dec.{ltb, eqb}
 use borrow.Author.Tests.{ne_eqb, eqb-true, lt-ltb}
-use Rattle.layout.specs.Lists.{if◌then◌else◌, all, any}
+use Rattle.layout.specs.Lists.{all, any}
 use Rattle.layout.specs.Words.{row_kind}
 use Rattle.layout.specs.NotCircuit.{bad_word}
 use Rattle.layout.specs.Outcomes.{refusal}

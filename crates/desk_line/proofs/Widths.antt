@@ -1,4 +1,5 @@
 -- Laws of how wide a row is, and of the tests that come before a fill. Assumes nothing.
+use Rattle.std.specs.Prelude.{if◌then◌else◌}
 use Prim.Native.Nat.{ℕ, zero, suc, ◌+◌, ◌-◌, ◌*◌, ◌<◌, ◌≤◌}
 use mathlib.Core.Path.{◌≡◌, refl, sym, ap, ◌∙◌}
 use mathlib.Core.Bool.{Bool, true, false, ◌&&◌, ◌||◌, not}
@@ -8,7 +9,7 @@ use lib.ListN.{length, take}
 use lib.Seq.{take_all}
 use lib.Dec.{ltb, eqb}
 use borrow.Author.Tests.{ltb-true, ltb-false, lt-ltb, eqb-true, eqb-false}
-use Rattle.layout.specs.Lists.{if◌then◌else◌, all}
+use Rattle.layout.specs.Lists.{all}
 use Rattle.layout.specs.Words.{row_kind}
 use Rattle.layout.proofs.Lists.{same_test, or_left}
 use Rattle.layout.proofs.Tests.{neither}

@@ -1,6 +1,5 @@
 -- What is asked where a line is answered, and which kind of line it is. Assumes nothing.
-use Rattle.std.specs.Prelude.{ℕ, ◌≤◌, List, length, eqb}
-use Rattle.layout.specs.Lists.{if◌then◌else◌}
+use Rattle.std.specs.Prelude.{ℕ, ◌≤◌, List, length, eqb, if◌then◌else◌}
 use Rattle.layout.specs.Words.{row_kind}
 use Rattle.desk.specs.Lines.{opens}
 use Rattle.desk_line.specs.Rows.{Places}

@@ -1,4 +1,5 @@
 -- A node gives an expression to one column at most: the one that it reads beside a product. Assumes nothing.
+use Rattle.std.specs.Prelude.{if◌then◌else◌}
 use Prim.Native.Nat.{ℕ}
 use mathlib.Core.Path.{◌≡◌, sym, ap, ◌∙◌}
 use mathlib.Core.Option.{none, some}
@@ -8,7 +9,6 @@ use Rattle.layout.specs.declared.node.Position.{Position}
 use Rattle.layout.specs.declared.node.Op.TheVariants.{Add, Multiply}
 use Rattle.layout.specs.declared.node.Expression.{Expression}
 use Rattle.layout.specs.declared.node.Expression.TheVariants.{Base, Extension, Challenge, Operation, Input}
-use Rattle.layout.specs.Lists.{if◌then◌else◌}
 use Rattle.layout.specs.Words.{expression_at}
 use Rattle.filling.specs.Constraints.{minus_times, is_input, column_plus, expression_of}
 use Rattle.filling.proofs.Items.{no, by_if, same_input}

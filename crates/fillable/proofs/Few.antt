@@ -1,11 +1,11 @@
 -- Numbers below a bound, each its own, are no more than the bound. Assumes nothing.
+use Rattle.std.specs.Prelude.{if◌then◌else◌}
 use Prim.Native.Nat.{ℕ, zero, suc, ◌<◌, ◌≤◌}
 use mathlib.Core.Path.{◌≡◌, sym, ◌∙◌}
 use mathlib.Core.Logic.{◌≢◌, ⊎_elim}
 use native.Mathlib.Omega.{arith}
 use lib.Dec.{eqb}
 use borrow.Author.Tests.{eq-eqb, ne_eqb}
-use Rattle.layout.specs.Lists.{if◌then◌else◌}
 use Rattle.layout.proofs.Tests.{same_or}
 
 -- without the last: the one that is the bound, if there is one, takes the last one's number

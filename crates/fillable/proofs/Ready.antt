@@ -1,4 +1,5 @@
 -- An expression that is ready to be worked out: the columns that it reads are there. Assumes nothing.
+use Rattle.std.specs.Prelude.{if◌then◌else◌}
 use Prim.Native.Nat.{ℕ, ◌<◌, ◌≤◌}
 use mathlib.Core.Path.{◌≡◌, refl, sym, ap, ◌∙◌}
 use mathlib.Core.Logic.{◌≢◌}
@@ -8,7 +9,6 @@ use mathlib.Core.List.{List}
 use lib.Dec.{ltb, eqb}
 use borrow.Author.Tests.{lt-ltb, le-ltb, eq-eqb, ne_eqb}
 use Rattle.layout.specs.declared.node.Position.{Position}
-use Rattle.layout.specs.Lists.{if◌then◌else◌}
 use Rattle.layout.specs.Words.{used}
 use Rattle.layout.specs.Tree.{tree}
 use Rattle.layout.proofs.Tests.{or-false, or_right}

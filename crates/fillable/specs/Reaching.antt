@@ -1,11 +1,10 @@
 -- How far a node reads among the current row's main columns, or among its auxiliary ones: one above the highest, and 0 where it reads none. Assumes nothing.
-use Rattle.std.specs.Prelude.{ℕ, suc, ◌≤◌, max, ◌≡◌, Bool, List}
+use Rattle.std.specs.Prelude.{ℕ, suc, ◌≤◌, max, ◌≡◌, Bool, List, if◌then◌else◌}
 use Rattle.layout.specs.declared.node.Position.{Position}
 use Rattle.layout.specs.declared.node.Position.TheVariants.{Main, Aux, NextMain, NextAux}
 use Rattle.layout.specs.declared.node.Op.{Op}
 use Rattle.layout.specs.declared.node.Expression.{Expression}
 use Rattle.layout.specs.declared.node.Expression.TheVariants.{Input}
-use Rattle.layout.specs.Lists.{if◌then◌else◌}
 use Rattle.layout.specs.Words.{column}
 use Rattle.layout.specs.Tree.{Leaf, base_leaf, extension_leaf, challenge_leaf, input_leaf, Tree, leaf, branch, tree}
 use Rattle.read.specs.Tables.{leaf_entry}

@@ -1,9 +1,8 @@
 -- The test 17 NOT_LOWERED as the code answers it, which hands on the expressions of the listed nodes. Assumes nothing.
-use Rattle.std.specs.Prelude.{ℕ, ◌+◌, ◌<◌, ◌≤◌, ◌≡◌, Bool, true, false, ◌||◌, not, List, length}
+use Rattle.std.specs.Prelude.{ℕ, ◌+◌, ◌<◌, ◌≤◌, ◌≡◌, Bool, true, false, ◌||◌, not, List, length, if◌then◌else◌}
 use Rattle.std.proofs.Math.Option.{Option, none, some}
 use Rattle.layout.specs.declared.node.Position.{Position}
 use Rattle.layout.specs.declared.node.Position.TheVariants.{Main, Aux}
-use Rattle.layout.specs.Lists.{if◌then◌else◌}
 use Rattle.layout.specs.Words.{used}
 use Rattle.layout.specs.Tree.{tree}
 use Rattle.layout.specs.NotCircuit.{not_circuit, bad_id}

@@ -1,4 +1,5 @@
 -- Which columns are read where so many items are filled: none beyond the row, and no new one that is not filled. Assumes nothing.
+use Rattle.std.specs.Prelude.{if◌then◌else◌}
 use Prim.Native.Nat.{ℕ, ◌+◌, ◌-◌, ◌*◌, ◌<◌, ◌≤◌, min}
 use mathlib.Core.Path.{◌≡◌, refl, sym, ap, ◌∙◌}
 use mathlib.Core.Logic.{◌⊎◌, ⊎_elim}
@@ -11,7 +12,7 @@ use Rattle.layout.specs.declared.node.Position.{Position}
 use Rattle.layout.specs.declared.node.Position.TheVariants.{Main, Aux, NextMain, NextAux}
 use Rattle.layout.specs.declared.node.Expression.{Expression}
 use Rattle.layout.specs.declared.node.Expression.TheVariants.{Base, Extension, Challenge, Operation, Input}
-use Rattle.layout.specs.Lists.{if◌then◌else◌, any}
+use Rattle.layout.specs.Lists.{any}
 use Rattle.layout.specs.Words.{row_kind, used, expression_at, is_main, is_next}
 use Rattle.layout.specs.Tree.{tree_over, tree}
 use Rattle.layout.specs.NotCircuit.{not_circuit}

@@ -1,4 +1,5 @@
 -- One node more in a plan: its value stands in its entry, and those that stood stand. Assumes nothing.
+use Rattle.std.specs.Prelude.{if◌then◌else◌}
 use Prim.Native.Nat.{ℕ, zero, suc, ◌+◌, ◌*◌, ◌<◌, ◌≤◌}
 use mathlib.Core.Path.{◌≡◌, refl, sym, ap, ap₂, ◌∙◌, subst}
 use mathlib.Core.Logic.{◌≢◌, ⊎_elim}
@@ -18,7 +19,7 @@ use Rattle.layout.specs.declared.node.Op.TheVariants.{Add, Multiply}
 use Rattle.layout.specs.declared.node.Position.{Position}
 use Rattle.layout.specs.declared.node.Expression.{Expression}
 use Rattle.layout.specs.declared.node.Expression.TheVariants.{Base, Extension, Challenge, Operation, Input}
-use Rattle.layout.specs.Lists.{if◌then◌else◌, bit}
+use Rattle.layout.specs.Lists.{bit}
 use Rattle.layout.specs.Words.{row_kind, used, expression_at, is_main, apply}
 use Rattle.layout.specs.Tree.{Tree, tree_over, tree}
 use Rattle.layout.proofs.Tests.{last_or}

@@ -1,4 +1,5 @@
 -- The plan of a call that has passed the tests: by it each row is filled as defined. Assumes nothing.
+use Rattle.std.specs.Prelude.{if◌then◌else◌}
 use Prim.Native.Nat.{ℕ, ◌+◌, ◌-◌, ◌*◌, ◌<◌, ◌≤◌}
 use mathlib.Core.Path.{◌≡◌, refl, sym, ap, ◌∙◌, subst}
 use mathlib.Core.Bool.{Bool, true, false}
@@ -9,7 +10,7 @@ use lib.ListN.{length, get_or}
 use lib.Seq.{sets, ext_get_or}
 use Rattle.arithmetic.specs.declared.Triple.{Triple}
 use Rattle.arithmetic.specs.Extension.{lift}
-use Rattle.layout.specs.Lists.{if◌then◌else◌, bit}
+use Rattle.layout.specs.Lists.{bit}
 use Rattle.layout.specs.Words.{row_kind, used}
 use Rattle.layout.specs.Tree.{tree}
 use Rattle.circuit.specs.Rank.{at}

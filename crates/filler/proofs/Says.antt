@@ -1,4 +1,5 @@
 -- The filled row says an assignment: its old cells and the next row's are as lent, and each new cell holds its expression's value. Assumes nothing.
+use Rattle.std.specs.Prelude.{if◌then◌else◌}
 use Prim.Native.Nat.{ℕ, ◌+◌, ◌-◌, ◌*◌, ◌/◌, ◌<◌}
 use mathlib.Core.Path.{◌≡◌, refl, sym, ap, ◌∙◌}
 use mathlib.Core.Bool.{Bool, true, false}
@@ -13,7 +14,6 @@ use Rattle.arithmetic.specs.Extension.{lift}
 use Rattle.layout.specs.declared.node.Position.{Position}
 use Rattle.layout.specs.declared.node.Position.TheVariants.{Main, Aux, NextMain, NextAux}
 use Rattle.layout.specs.declared.node.Expression.TheVariants.{Input}
-use Rattle.layout.specs.Lists.{if◌then◌else◌}
 use Rattle.layout.specs.Words.{row_kind, used, expression_at, is_main, is_next}
 use Rattle.layout.specs.Tree.{tree}
 use Rattle.circuit.specs.Rank.{at}

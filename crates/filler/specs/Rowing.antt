@@ -1,10 +1,9 @@
 -- One row of tables of many: its values are worked out, and the new columns' are stored in the part of the row that begins at the old columns' count.
 -- Assumes nothing.
-use Rattle.std.specs.Prelude.{ℕ, zero, suc, ◌+◌, ◌-◌, ◌*◌, ◌<◌, ◌≤◌, ◌≡◌, List, [], ◌∷◌, ◌++◌, length, eqb}
+use Rattle.std.specs.Prelude.{ℕ, zero, suc, ◌+◌, ◌-◌, ◌*◌, ◌<◌, ◌≤◌, ◌≡◌, List, [], ◌∷◌, ◌++◌, length, eqb, if◌then◌else◌}
 use Rattle.std.proofs.lemmas.List.Edits.{sets}
 use Rattle.arithmetic.specs.declared.Triple.{Triple}
 use Rattle.arithmetic.specs.Extension.{lift}
-use Rattle.layout.specs.Lists.{if◌then◌else◌}
 use Rattle.layout.specs.Words.{row_kind}
 use Rattle.circuit.specs.Rank.{at}
 use Rattle.reading.specs.Calls.{triple_at}

@@ -1,9 +1,8 @@
 -- One row, instruction by instruction: a plan works out the values of nodes, operands first. Assumes nothing.
-use Rattle.std.specs.Prelude.{ℕ, zero, suc, ◌+◌, ◌*◌, ◌<◌, ◌≤◌, ◌≡◌, ◌≢◌, List, length, set, ltb, eqb}
+use Rattle.std.specs.Prelude.{ℕ, zero, suc, ◌+◌, ◌*◌, ◌<◌, ◌≤◌, ◌≡◌, ◌≢◌, List, length, set, ltb, eqb, if◌then◌else◌}
 use Rattle.arithmetic.specs.declared.Triple.{Triple}
 use Rattle.arithmetic.specs.Base.{add, multiply}
 use Rattle.arithmetic.specs.Extension.{lift, plus, times}
-use Rattle.layout.specs.Lists.{if◌then◌else◌}
 use Rattle.circuit.specs.Rank.{at}
 use Rattle.reading.specs.Calls.{triple_at}
 use Rattle.read.specs.Values.{put_triple}

@@ -1,4 +1,5 @@
 -- A listed node that gives its column an expression is worth the column plus -1 times that expression. Assumes nothing.
+use Rattle.std.specs.Prelude.{if◌then◌else◌}
 use Prim.Native.Nat.{ℕ, ◌<◌}
 use mathlib.Core.Path.{◌≡◌, refl, sym, ◌∙◌, ap, ap₂}
 use mathlib.Core.Bool.{Bool, true, false}
@@ -16,7 +17,7 @@ use Rattle.layout.specs.declared.node.Op.{Op}
 use Rattle.layout.specs.declared.node.Op.TheVariants.{Add, Multiply}
 use Rattle.layout.specs.declared.node.Expression.{Expression}
 use Rattle.layout.specs.declared.node.Expression.TheVariants.{Base, Extension, Challenge, Operation, Input}
-use Rattle.layout.specs.Lists.{if◌then◌else◌, any, same_words}
+use Rattle.layout.specs.Lists.{any, same_words}
 use Rattle.layout.specs.Words.{used, expression_at, encode, input_kind, column, is_constant, constant_is, apply, is_main}
 use Rattle.layout.specs.Tree.{tree_over, tree}
 use Rattle.layout.specs.NotCircuit.{not_circuit}

@@ -1,10 +1,10 @@
 -- The conditions of fill's own refusals, by their numbers. The tables hold so many rows, one after the other. Assumes nothing.
-use Rattle.std.specs.Prelude.{ℕ, suc, ◌+◌, ◌*◌, ◌/◌, ◌%◌, Bool, true, false, ◌&&◌, ◌||◌, not, List, [], ◌∷◌, ◌++◌, length, ltb, leb, eqb}
+use Rattle.std.specs.Prelude.{ℕ, suc, ◌+◌, ◌*◌, ◌/◌, ◌%◌, Bool, true, false, ◌&&◌, ◌||◌, not, List, [], ◌∷◌, ◌++◌, length, ltb, leb, eqb, if◌then◌else◌}
 use Rattle.std.proofs.Math.Option.{Option, none, some}
 use Rattle.layout.specs.declared.node.Position.TheVariants.{Main, Aux}
 use Rattle.layout.specs.declared.node.Expression.{Expression}
 use Rattle.layout.specs.declared.node.Expression.TheVariants.{Base, Extension, Challenge, Operation, Input}
-use Rattle.layout.specs.Lists.{if◌then◌else◌, any}
+use Rattle.layout.specs.Lists.{any}
 use Rattle.layout.specs.Words.{expression_at, is_main, column}
 use Rattle.layout.specs.Tree.{tree}
 use Rattle.walking.specs.Paths.{walks}

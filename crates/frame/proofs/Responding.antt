@@ -1,4 +1,5 @@
 -- Laws of what a request does: each call's answer is a reply, and a number picks its case. Assumes nothing.
+use Rattle.std.specs.Prelude.{if◌then◌else◌}
 use Prim.Native.Nat.{ℕ, ◌+◌, ◌-◌, ◌<◌, ◌≤◌}
 use mathlib.Core.Path.{◌≡◌, refl, sym, ap, ◌∙◌}
 use mathlib.Core.Bool.{true, false, not}
@@ -12,7 +13,6 @@ use borrow.Rule.Slice.PartMut.{mid_of, put_mid}
 use Rattle.layout.specs.declared.node.RowKind.{RowKind}
 use Rattle.layout.specs.declared.answer.Started.{Started}
 use Rattle.layout.specs.declared.answer.Started.TheVariants as started
-use Rattle.layout.specs.Lists.{if◌then◌else◌}
 use Rattle.layout.specs.Words.{row_kind, used}
 use Rattle.layout.specs.NotCircuit.{bad_id}
 use Rattle.layout.specs.Outcomes.{Outcome}

@@ -1,4 +1,5 @@
 -- Laws of what is written for an answer: one text after the other, and how long each is. Assumes nothing.
+use Rattle.std.specs.Prelude.{if◌then◌else◌}
 use Prim.Native.Nat.{ℕ, suc, ◌+◌, ◌*◌, ◌/◌, ◌%◌, ◌<◌, ◌≤◌}
 use mathlib.Core.Path.{◌≡◌, refl, sym, ap, ◌∙◌}
 use mathlib.Core.Bool.{Bool, true, false}
@@ -10,7 +11,6 @@ use lib.Dec.{eqb}
 use lib.ListN.{length, get_or, set, take, length-append, length-take}
 use lib.Seq.{sets, set_out, take-suc, take_all, length-take-le}
 use borrow.Author.Tests.{eq-eqb, ne_eqb}
-use Rattle.layout.specs.Lists.{if◌then◌else◌}
 use Rattle.framing.specs.Digits.{character, hexadecimal, two, twos}
 use Rattle.framing.specs.declared.Reply.{Reply}
 use Rattle.framing.specs.declared.Reply.TheVariants.{Bare, Id, Counts}

@@ -1,12 +1,11 @@
 -- Document 01, "The frame program": what a request does, and what it is answered. Assumes nothing.
-use Rattle.std.specs.Prelude.{ℕ, Bool, true, false, not, List, [], ◌∷◌, ◌++◌, take, eqb}
+use Rattle.std.specs.Prelude.{ℕ, Bool, true, false, not, List, [], ◌∷◌, ◌++◌, take, eqb, if◌then◌else◌}
 use Rattle.std.proofs.lemmas.List.Edits.{sets}
 use Rattle.layout.specs.declared.node.RowKind.{RowKind}
 use Rattle.layout.specs.declared.node.RowKind.TheVariants.{Single, Dual}
 use Rattle.layout.specs.declared.node.Position.TheVariants.{Main, Aux, NextMain, NextAux}
 use Rattle.layout.specs.declared.answer.Started.{Started}
 use Rattle.layout.specs.declared.answer.Started.TheVariants as started
-use Rattle.layout.specs.Lists.{if◌then◌else◌}
 use Rattle.layout.specs.Words.{row_kind}
 use Rattle.layout.specs.NotCircuit.{bad_id}
 use Rattle.layout.specs.Outcomes.{Outcome, refusal}

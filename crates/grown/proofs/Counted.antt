@@ -1,4 +1,5 @@
 -- Counting references writes count words alone: a circuit stays one, and every node keeps its tree and its mark. Assumes nothing.
+use Rattle.std.specs.Prelude.{if◌then◌else◌}
 use Prim.Native.Nat.{ℕ, zero, suc, ◌+◌, ◌<◌}
 use mathlib.Core.Path.{◌≡◌, refl, sym, ap, ap₂, ◌∙◌}
 use mathlib.Core.Logic.{◌≢◌}
@@ -10,7 +11,7 @@ use lib.Seq.{get_or-set_other}
 use lib.Dec.{ltb, eqb}
 use Rattle.layout.specs.declared.node.Expression.{Expression}
 use Rattle.layout.specs.declared.node.Expression.TheVariants.{Base, Extension, Challenge, Operation, Input}
-use Rattle.layout.specs.Lists.{if◌then◌else◌, up_to, any, each}
+use Rattle.layout.specs.Lists.{up_to, any, each}
 use Rattle.layout.specs.Words.{row_kind, used, limit, offset, word, node_at, expression_at, registered}
 use Rattle.layout.specs.NotCircuit.{bad_row, bad_expression, bad_node, either_operand, goes_on, cyclic, bad_header, not_circuit}
 use Rattle.layout.specs.Tree.{tree_over, unfolded, tree}

@@ -1,5 +1,6 @@
 -- Left to right at document 01's own examples, ((x·x)·x)·x and x²·a², grown by the calls. It is false of a circuit with two registered nodes alike, and of
 -- a grown one where nodes are chosen by degree first. Assumes nothing.
+use Rattle.std.specs.Prelude.{if◌then◌else◌}
 use Prim.Native.Nat.{ℕ, zero, suc, ◌<◌}
 use mathlib.Core.Path.{◌≡◌, refl, ap}
 use mathlib.Core.Logic.{inl, inr}
@@ -15,7 +16,7 @@ use Rattle.layout.specs.declared.node.Position.TheVariants.{Main, Aux}
 use Rattle.layout.specs.declared.node.Op.TheVariants.{Add, Multiply}
 use Rattle.layout.specs.declared.node.Expression.{Expression}
 use Rattle.layout.specs.declared.node.Expression.TheVariants.{Base, Extension, Challenge, Operation, Input}
-use Rattle.layout.specs.Lists.{if◌then◌else◌, In, keep, each}
+use Rattle.layout.specs.Lists.{In, keep, each}
 use Rattle.layout.specs.Words.{used, node_at, expression_at}
 use Rattle.layout.specs.Tree.{tree}
 use Rattle.layout.specs.Samples.{sample}

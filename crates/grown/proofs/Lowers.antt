@@ -1,12 +1,12 @@
 -- A lowering keeps no two registered nodes alike, and its constraints are differences: each substitution sees to it, and there is room for all of them.
 -- Assumes nothing.
+use Rattle.std.specs.Prelude.{if◌then◌else◌}
 use Prim.Native.Nat.{ℕ, zero, suc, ◌≤◌}
 use mathlib.Core.Path.{◌≡◌, refl}
 use mathlib.Core.Bool.{Bool, true, false}
 use mathlib.Core.List.{List, []}
 use native.Mathlib.Omega.{arith}
 use lib.ListN.{length}
-use Rattle.layout.specs.Lists.{if◌then◌else◌}
 use Rattle.layout.specs.Words.{used, limit}
 use Rattle.layout.specs.Outcomes.{refusal}
 use Rattle.lowering.specs.Lowering.{Lowering, M, too_high, loop, lowered}

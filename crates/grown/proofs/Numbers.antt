@@ -1,4 +1,5 @@
 -- A frame of document 01 is answered with a number up to FRAME, whatever the words are. Assumes nothing.
+use Rattle.std.specs.Prelude.{if◌then◌else◌}
 use Prim.Native.Nat.{ℕ, ◌≤◌}
 use mathlib.Core.Path.{◌≡◌, refl}
 use mathlib.Core.Bool.{Bool, true, false}
@@ -11,7 +12,7 @@ use Rattle.layout.specs.declared.node.RowKind.{RowKind}
 use Rattle.layout.specs.declared.node.RowKind.TheVariants.{Single, Dual}
 use Rattle.layout.specs.declared.node.Position.{Position}
 use Rattle.layout.specs.declared.node.Position.TheVariants as position
-use Rattle.layout.specs.Lists.{if◌then◌else◌, all}
+use Rattle.layout.specs.Lists.{all}
 use Rattle.layout.specs.NotCircuit.{bad_id}
 use Rattle.layout.specs.Outcomes.{refusal, outcome}
 use Rattle.layout.specs.Calls.{start_call}

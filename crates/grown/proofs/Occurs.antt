@@ -1,11 +1,12 @@
 -- Occurrences: sums of paths over the high nodes. Assumes nothing.
+use Rattle.std.specs.Prelude.{if◌then◌else◌}
 use Prim.Native.Nat.{ℕ, ◌+◌, ◌≤◌, ◌<◌}
 use mathlib.Core.Path.{◌≡◌, refl}
 use mathlib.Core.Logic.{inl, inr}
 use mathlib.Core.Bool.{Bool, true, false}
 use mathlib.Core.List.{List, [], ◌∷◌}
 use native.Mathlib.Omega.{arith}
-use Rattle.layout.specs.Lists.{if◌then◌else◌, In, keep}
+use Rattle.layout.specs.Lists.{In, keep}
 use Rattle.layout.proofs.Lists.{clash}
 use Rattle.walking.specs.Paths.{paths}
 use Rattle.paths.proofs.Walks.{from, paths_none, paths_more}

@@ -1,4 +1,5 @@
 -- An operation's step: what is built, and its tree. Assumes nothing.
+use Rattle.std.specs.Prelude.{if◌then◌else◌}
 use Prim.Native.Nat.{ℕ, ◌<◌}
 use mathlib.Core.Path.{◌≡◌, refl, ap, ◌∙◌}
 use mathlib.Core.Bool.{Bool, true, false}
@@ -11,7 +12,6 @@ use Rattle.layout.specs.declared.node.Op.{Op}
 use Rattle.layout.specs.declared.node.Op.TheVariants.{Add, Multiply}
 use Rattle.layout.specs.declared.node.Expression.{Expression}
 use Rattle.layout.specs.declared.node.Expression.TheVariants.{Base, Extension, Challenge, Operation, Input}
-use Rattle.layout.specs.Lists.{if◌then◌else◌}
 use Rattle.layout.specs.Words.{used, expression_at, constant_of, constant, constant_is, is_constant, apply}
 use Rattle.layout.specs.NotCircuit.{not_circuit}
 use Rattle.layout.specs.Tree.{Tree, tree_over, tree, tree_of, same}

@@ -1,4 +1,5 @@
 -- LEFT TO RIGHT: an accepted lowering lists its constraints in an order in which their columns can be filled, and alters none that is listed. Assumes nothing.
+use Rattle.std.specs.Prelude.{if◌then◌else◌}
 use Prim.Native.Nat.{ℕ, zero, suc, ◌+◌, ◌-◌, ◌≤◌, ◌<◌}
 use mathlib.Core.Path.{◌≡◌, refl, sym, ◌∙◌, ap}
 use mathlib.Core.Logic.{⊎_elim}
@@ -9,7 +10,7 @@ use native.Mathlib.Omega.{arith}
 use lib.ListN.{length, get_or}
 use Rattle.layout.specs.declared.node.Position.{Position}
 use Rattle.layout.specs.declared.node.Position.TheVariants.{Main, Aux}
-use Rattle.layout.specs.Lists.{if◌then◌else◌, In, any}
+use Rattle.layout.specs.Lists.{In, any}
 use Rattle.layout.specs.Words.{used, limit}
 use Rattle.layout.specs.Outcomes.{refusal}
 use Rattle.layout.proofs.Tests.{is_false}

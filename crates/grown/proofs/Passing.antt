@@ -1,4 +1,5 @@
 -- Paths: what stands below a node is met at least as often as the node; and what a substitution takes away. Assumes nothing.
+use Rattle.std.specs.Prelude.{if◌then◌else◌}
 use Prim.Native.Nat.{ℕ, suc, ◌+◌, ◌≤◌, ◌<◌}
 use mathlib.Core.Path.{◌≡◌, sym, ◌∙◌, ap}
 use mathlib.Core.Logic.{◌≢◌, ◌⊎◌, inl, inr}
@@ -10,7 +11,7 @@ use lib.Dec.{eqb}
 use borrow.Author.Tests.{eq-eqb, ne_eqb}
 use Rattle.layout.specs.declared.node.Position.{Position}
 use Rattle.layout.specs.declared.node.Op.{Op}
-use Rattle.layout.specs.Lists.{if◌then◌else◌, In, count}
+use Rattle.layout.specs.Lists.{In, count}
 use Rattle.layout.specs.Tree.{Tree, leaf, branch}
 use Rattle.walking.specs.Paths.{walk}
 use Rattle.paths.proofs.Walks.{count-append}

@@ -1,4 +1,5 @@
 -- What an accepted lowering leaves in place: the row kind, every leaf; its roots, its constraints and its new columns are nodes. Assumes nothing.
+use Rattle.std.specs.Prelude.{if◌then◌else◌}
 use Prim.Native.Nat.{ℕ, ◌+◌, ◌≤◌, ◌<◌}
 use mathlib.Core.Path.{◌≡◌, refl, ap, ◌∙◌}
 use mathlib.Core.Bool.{Bool, true, false}
@@ -8,7 +9,7 @@ use native.Mathlib.Omega.{arith}
 use lib.ListN.{length}
 use Rattle.layout.specs.declared.node.Position.{Position}
 use Rattle.layout.specs.declared.node.Position.TheVariants.{Main, Aux}
-use Rattle.layout.specs.Lists.{if◌then◌else◌, In}
+use Rattle.layout.specs.Lists.{In}
 use Rattle.layout.specs.Words.{row_kind, used}
 use Rattle.layout.specs.Tree.{Leaf, input_leaf}
 use Rattle.layout.specs.Outcomes.{refusal}

@@ -1,4 +1,5 @@
 -- The program `fill` never answers NOT_LOWERED: a row is filled by the lists of an accepted lowering, with nodes built since. Assumes nothing.
+use Rattle.std.specs.Prelude.{if◌then◌else◌}
 use Prim.Native.Nat.{ℕ, zero, suc, ◌*◌, ◌/◌, ◌≤◌}
 use mathlib.Core.Path.{◌≡◌, refl}
 use mathlib.Core.Logic.{⊎_elim}
@@ -12,7 +13,7 @@ use Rattle.layout.specs.declared.node.RowKind.{RowKind}
 use Rattle.layout.specs.declared.node.RowKind.TheVariants.{Single, Dual}
 use Rattle.layout.specs.declared.node.Position.{Position}
 use Rattle.layout.specs.declared.node.Position.TheVariants as position
-use Rattle.layout.specs.Lists.{if◌then◌else◌, all, any}
+use Rattle.layout.specs.Lists.{all, any}
 use Rattle.layout.specs.Words.{row_kind}
 use Rattle.layout.specs.NotCircuit.{bad_word}
 use Rattle.layout.specs.Outcomes.{Outcome, refusal}

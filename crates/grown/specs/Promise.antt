@@ -1,6 +1,6 @@
 -- Demand 3 for grown circuits: what an accepted lowering promises. Assumes nothing.
 --   "Exactly one choice of values for the new columns makes every new constraint zero, and under it each lowered root has the value its original had."
-use Rattle.std.specs.Prelude.{ℕ, ◌+◌, ◌-◌, ◌≤◌, ◌<◌, ◌≡◌, ◌≢◌, ◌⊎◌, true, false, List, [], ◌++◌, length, get_or, ltb}
+use Rattle.std.specs.Prelude.{ℕ, ◌+◌, ◌-◌, ◌≤◌, ◌<◌, ◌≡◌, ◌≢◌, ◌⊎◌, true, false, List, [], ◌++◌, length, get_or, ltb, if◌then◌else◌}
 use Rattle.arithmetic.specs.declared.Triple.{Triple}
 use Rattle.arithmetic.specs.Base.{p, minus_one}
 use Rattle.arithmetic.specs.Extension.{Canonical}
@@ -8,7 +8,7 @@ use Rattle.layout.specs.declared.node.Position.{Position}
 use Rattle.layout.specs.declared.node.Position.TheVariants.{Main, Aux}
 use Rattle.layout.specs.declared.node.Op.TheVariants.{Add, Multiply}
 use Rattle.layout.specs.declared.node.Expression.TheVariants.{Base, Operation, Input}
-use Rattle.layout.specs.Lists.{if◌then◌else◌, In}
+use Rattle.layout.specs.Lists.{In}
 use Rattle.layout.specs.Words.{used, expression_at}
 use Rattle.reading.specs.Readings.{Assignment, above}
 use Rattle.lowering.specs.Lowering.{Lowering, M, too_high}

@@ -1,4 +1,5 @@
 -- Laws of kept tables: what a start, a lowering and a request leave is a circuit, with tables that fit it. Assumes nothing.
+use Rattle.std.specs.Prelude.{if◌then◌else◌}
 use Prim.Native.Nat.{ℕ, zero, suc, ◌≤◌}
 use mathlib.Core.Path.{◌≡◌, refl, sym, ap, ◌∙◌}
 use mathlib.Core.Bool.{Bool, true, false, not}
@@ -10,7 +11,7 @@ use lib.Dec.{ltb, eqb}
 use borrow.Author.Tests.{le-ltb, ltb-false, eqb-true, eq-eqb}
 use Rattle.layout.specs.declared.node.RowKind.{RowKind}
 use Rattle.layout.specs.declared.node.RowKind.TheVariants.{Single, Dual}
-use Rattle.layout.specs.Lists.{if◌then◌else◌, up_to, any, written}
+use Rattle.layout.specs.Lists.{up_to, any, written}
 use Rattle.layout.specs.Words.{row_word, row_kind, used, limit}
 use Rattle.layout.specs.NotCircuit.{bad_id, bad_header, cyclic, not_circuit}
 use Rattle.layout.specs.Outcomes.{Outcome, numbered, outcome, refusal}

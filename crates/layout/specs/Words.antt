@@ -4,7 +4,7 @@
 --   0 base constant: word. 1 extension constant: c0 c1 c2. 2 challenge: index. 3 add, 4 multiply: left id, right id.
 --   Input, 5 main, 6 auxiliary, 7 next main, 8 next auxiliary: column.
 --   A word that its kind doesn't name is ignored where it is read, and written as 0. Assumes nothing.
-use Rattle.std.specs.Prelude.{ℕ, ◌+◌, ◌-◌, ◌*◌, ◌/◌, min, Bool, true, false, List, [], ◌∷◌, ◌++◌, length, get_or, set, take, drop, eqb}
+use Rattle.std.specs.Prelude.{ℕ, ◌+◌, ◌-◌, ◌*◌, ◌/◌, min, Bool, true, false, List, [], ◌∷◌, ◌++◌, length, get_or, set, take, drop, eqb, if◌then◌else◌}
 use Rattle.std.proofs.Math.Option.{Option, none, some}
 use Rattle.arithmetic.specs.declared.Triple.{Triple}
 use Rattle.arithmetic.specs.Extension.{triple, lift, unlifts, plus, times}
@@ -17,7 +17,6 @@ use Rattle.layout.specs.declared.node.Op.TheVariants.{Add, Multiply}
 use Rattle.layout.specs.declared.node.Expression.{Expression}
 use Rattle.layout.specs.declared.node.Expression.TheVariants.{Base, Extension, Challenge, Operation, Input}
 use Rattle.layout.specs.declared.node.Node.{Node}
-use Rattle.layout.specs.Lists.{if◌then◌else◌}
 
 -- single-row or dual-row, fixed at its start
 abbrev pub row_word : RowKind → ℕ

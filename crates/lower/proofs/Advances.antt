@@ -1,4 +1,5 @@
 -- One substitution more, where some root's degree exceeds the target: its constraint stands at the first free place of its list. Assumes nothing.
+use Rattle.std.specs.Prelude.{if◌then◌else◌}
 use Prim.Native.Nat.{ℕ, ◌+◌, ◌<◌}
 use mathlib.Core.Path.{◌≡◌, refl, sym, ◌∙◌}
 use mathlib.Core.Bool.{Bool, true, false}
@@ -6,7 +7,7 @@ use mathlib.Core.Option.{none, some}
 use mathlib.Core.List.{List, [], ◌∷◌, ◌++◌, append-nil}
 use native.Mathlib.Omega.{arith}
 use lib.ListN.{length, set, drop, length-append, length-drop}
-use Rattle.layout.specs.Lists.{if◌then◌else◌, written}
+use Rattle.layout.specs.Lists.{written}
 use Rattle.layout.specs.Tree.{tree}
 use Rattle.paths.proofs.Written.{written_more}
 use Rattle.reading.specs.Readings.{is_base}

@@ -1,4 +1,5 @@
 -- How the two groups of tests decide a lowering's outcome. Assumes nothing.
+use Rattle.std.specs.Prelude.{if◌then◌else◌}
 use Prim.Native.Nat.{ℕ, zero, suc, ◌≤◌}
 use mathlib.Core.Path.{◌≡◌, refl, sym, ◌∙◌}
 use mathlib.Core.Logic.{◌≢◌}
@@ -8,7 +9,6 @@ use native.Mathlib.Omega.{arith}
 use lib.ListN.{length}
 use lib.Dec.{ltb}
 use borrow.Author.Tests.{ltb-false}
-use Rattle.layout.specs.Lists.{if◌then◌else◌}
 use Rattle.layout.specs.Outcomes.{refusal}
 use Rattle.layout.specs.Answers.{accepted, refused}
 use Rattle.layout.proofs.Refusals.{refusal_none, refusal_next, outcome_accepted, outcome_refused}

@@ -1,4 +1,5 @@
 -- After a substitution no degree is higher and no node occurs more often: DEGREE and PATHS, tested at the start, hold to the end. Assumes nothing.
+use Rattle.std.specs.Prelude.{if◌then◌else◌}
 use Prim.Native.Nat.{ℕ, zero, suc, ◌+◌, ◌-◌, ◌<◌, ◌≤◌}
 use mathlib.Core.Path.{◌≡◌, refl, sym, ◌∙◌, ap}
 use mathlib.Core.Logic.{◌≢◌, ◌⊎◌, inl, inr}
@@ -10,7 +11,7 @@ use native.Mathlib.Omega.{arith}
 use lib.Dec.{ltb}
 use borrow.Author.Tests.{ltb-true, ltb-false, ne_eqb}
 use Rattle.layout.specs.declared.node.Position.{Position}
-use Rattle.layout.specs.Lists.{if◌then◌else◌, up_to, any, keep, count}
+use Rattle.layout.specs.Lists.{up_to, any, keep, count}
 use Rattle.layout.specs.Words.{used}
 use Rattle.layout.specs.Tree.{input_leaf, Tree, leaf, branch, tree}
 use Rattle.layout.proofs.Tests.{is_false, any_at, any_none}

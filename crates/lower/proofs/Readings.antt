@@ -1,4 +1,5 @@
 -- What the loops find in the tables is what the definitions say. Assumes nothing.
+use Rattle.std.specs.Prelude.{if◌then◌else◌}
 use Prim.Native.Nat.{ℕ, suc, ◌<◌, ◌≤◌}
 use mathlib.Core.Path.{◌≡◌, refl, sym, ◌∙◌, ap}
 use mathlib.Core.Logic.{inl, inr}
@@ -8,7 +9,7 @@ use native.Mathlib.Omega.{arith}
 use lib.ListN.{length}
 use lib.Dec.{ltb, leb}
 use borrow.Author.Tests.{ltb-true, ltb-false, leb-false, lt-ltb, not-true}
-use Rattle.layout.specs.Lists.{if◌then◌else◌, up_to, In, any, keep}
+use Rattle.layout.specs.Lists.{up_to, In, any, keep}
 use Rattle.layout.specs.Words.{used, registered}
 use Rattle.layout.specs.Tree.{tree}
 use Rattle.layout.specs.NotCircuit.{not_circuit, bad_id}

@@ -1,4 +1,5 @@
 -- The choice as the code does it: lists that grow by one id, and the best so far. Assumes nothing.
+use Rattle.std.specs.Prelude.{if◌then◌else◌}
 use Prim.Native.Nat.{ℕ, suc, ◌+◌, ◌<◌, ◌≤◌}
 use mathlib.Core.Path.{◌≡◌, refl, sym, ◌∙◌, ap}
 use mathlib.Core.Logic.{⊎_elim}
@@ -9,7 +10,7 @@ use native.Mathlib.Omega.{arith}
 use lib.ListN.{length, set, length-set, length-append}
 use lib.Seq.{take-suc-set}
 use borrow.Author.Tests.{ltb-true, lt-ltb, le-ltb, eq-eqb}
-use Rattle.layout.specs.Lists.{if◌then◌else◌, up_to, keep, each}
+use Rattle.layout.specs.Lists.{up_to, keep, each}
 use Rattle.circuit.specs.Rank.{at}
 use Rattle.layout.proofs.Tests.{below_or}
 use Rattle.layout.proofs.Lists.{and-true}

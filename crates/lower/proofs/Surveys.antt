@@ -1,4 +1,5 @@
 -- The tables of a lowering: they are what the choice asks for. Assumes nothing.
+use Rattle.std.specs.Prelude.{if◌then◌else◌}
 use Prim.Native.Nat.{ℕ, suc, ◌<◌, ◌≤◌}
 use mathlib.Core.Path.{◌≡◌, sym, ◌∙◌}
 use mathlib.Core.Bool.{Bool, true, false}
@@ -8,7 +9,7 @@ use native.Mathlib.Omega.{arith}
 use lib.ListN.{length, take}
 use lib.Dec.{leb}
 use borrow.Author.Tests.{lt-leb}
-use Rattle.layout.specs.Lists.{if◌then◌else◌, up_to, any, keep}
+use Rattle.layout.specs.Lists.{up_to, any, keep}
 use Rattle.layout.specs.Words.{used}
 use Rattle.layout.specs.Tree.{tree}
 use Rattle.layout.specs.NotCircuit.{not_circuit, bad_id}

@@ -1,4 +1,5 @@
 -- The loop of a lowering: what holds at each turn, and that it ends as the definition does. Assumes nothing.
+use Rattle.std.specs.Prelude.{if◌then◌else◌}
 use Prim.Native.Nat.{ℕ, zero, suc, ◌+◌, ◌-◌, ◌≤◌, ◌<◌}
 use mathlib.Core.Path.{◌≡◌, refl, sym, ◌∙◌, ap}
 use mathlib.Core.Logic.{◌≢◌}
@@ -10,7 +11,7 @@ use lib.ListN.{length, drop, length-append, length-drop}
 use Rattle.layout.specs.declared.node.Position.{Position}
 use Rattle.layout.specs.declared.node.Position.TheVariants.{Main, Aux}
 use Rattle.layout.specs.declared.node.Expression.TheVariants.{Input}
-use Rattle.layout.specs.Lists.{if◌then◌else◌, written, bit}
+use Rattle.layout.specs.Lists.{written, bit}
 use Rattle.layout.specs.Words.{used, limit, column, is_main, is_next}
 use Rattle.layout.specs.Tree.{input_leaf, tree}
 use Rattle.layout.specs.Answers.{accepted}

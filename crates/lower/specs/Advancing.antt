@@ -1,6 +1,6 @@
 -- The loop of a lowering: what one substitution more asks of the lent words, and what they are after it. Assumes nothing.
-use Rattle.std.specs.Prelude.{ℕ, ◌+◌, ◌<◌, ◌≤◌, ◌≡◌, true, List, length, set}
-use Rattle.layout.specs.Lists.{if◌then◌else◌, written}
+use Rattle.std.specs.Prelude.{ℕ, ◌+◌, ◌<◌, ◌≤◌, ◌≡◌, true, List, length, set, if◌then◌else◌}
+use Rattle.layout.specs.Lists.{written}
 use Rattle.layout.specs.Outcomes.{Outcome}
 use Rattle.layout.specs.Answers.{accepted}
 use Rattle.lowering.specs.Lowering.{Lowering, too_high, candidates, best, substituted, lowered}

@@ -1,9 +1,8 @@
 -- One substitution in a circuit that is known to be one, by building's inner calls: what it asks and gives. Assumes nothing.
-use Rattle.std.specs.Prelude.{ℕ, ◌<◌, ◌≡◌, Bool, false, List, map}
+use Rattle.std.specs.Prelude.{ℕ, ◌<◌, ◌≡◌, Bool, false, List, map, if◌then◌else◌}
 use Rattle.layout.specs.declared.node.Position.TheVariants.{Main, Aux}
 use Rattle.layout.specs.declared.node.Expression.{Expression}
 use Rattle.layout.specs.declared.node.Expression.TheVariants.{Input}
-use Rattle.layout.specs.Lists.{if◌then◌else◌}
 use Rattle.layout.specs.Words.{used, limit, made}
 use Rattle.layout.specs.Tree.{tree}
 use Rattle.layout.specs.NotCircuit.{not_circuit}

@@ -1,7 +1,6 @@
 -- The tables of a lowering, filled anew for each choice: what filling them asks and gives. Assumes nothing.
-use Rattle.std.specs.Prelude.{ℕ, ◌<◌, ◌≤◌, ◌≡◌, Bool, false, List, length}
+use Rattle.std.specs.Prelude.{ℕ, ◌<◌, ◌≤◌, ◌≡◌, Bool, false, List, length, if◌then◌else◌}
 use Rattle.std.proofs.Math.Option.{Option, none, some}
-use Rattle.layout.specs.Lists.{if◌then◌else◌}
 use Rattle.layout.specs.Words.{used}
 use Rattle.layout.specs.Tree.{tree}
 use Rattle.layout.specs.NotCircuit.{not_circuit, bad_id}

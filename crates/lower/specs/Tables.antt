@@ -1,6 +1,6 @@
 -- What the loops of a lowering read from tables, one entry a node: degrees, path counts, occurrences. Assumes nothing.
-use Rattle.std.specs.Prelude.{ℕ, suc, ◌<◌, min, ◌≡◌, Bool, ◌&&◌, not, List, map, length, take, ltb}
-use Rattle.layout.specs.Lists.{if◌then◌else◌, up_to, keep}
+use Rattle.std.specs.Prelude.{ℕ, suc, ◌<◌, min, ◌≡◌, Bool, ◌&&◌, not, List, map, length, take, ltb, if◌then◌else◌}
+use Rattle.layout.specs.Lists.{up_to, keep}
 use Rattle.layout.specs.Words.{used, registered}
 use Rattle.layout.specs.Tree.{tree}
 use Rattle.circuit.specs.Rank.{at}

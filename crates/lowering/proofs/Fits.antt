@@ -1,4 +1,5 @@
 -- An accepted lowering stays in what is lent, so 3·M free places are enough; and the words are a circuit again. Assumes nothing.
+use Rattle.std.specs.Prelude.{if◌then◌else◌}
 use Prim.Native.Nat.{ℕ, suc, ◌+◌, ◌*◌, ◌-◌, ◌≤◌, ◌<◌}
 use mathlib.Core.Path.{◌≡◌, refl, ap}
 use mathlib.Core.Bool.{Bool, true, false, ◌||◌}
@@ -7,7 +8,7 @@ use native.Mathlib.Omega.{arith}
 use lib.ListN.{length, drop, length-append, length-drop}
 use lib.Dec.{ltb}
 use borrow.Author.Tests.{ltb-false}
-use Rattle.layout.specs.Lists.{if◌then◌else◌, up_to, any, written}
+use Rattle.layout.specs.Lists.{up_to, any, written}
 use Rattle.layout.specs.Words.{used, limit, expression_at}
 use Rattle.layout.specs.NotCircuit.{not_circuit}
 use Rattle.layout.specs.Outcomes.{refusal}

@@ -1,4 +1,5 @@
 -- The loop of the definitions is a lowering of the theory. Assumes nothing.
+use Rattle.std.specs.Prelude.{if◌then◌else◌}
 use Prim.Native.Nat.{ℕ, zero, suc, ◌+◌, ◌*◌, ◌≤◌, ◌<◌}
 use mathlib.Core.Path.{◌≡◌, refl, sym, ◌∙◌, ap, subst}
 use mathlib.Core.Logic.{◌⊎◌, inl, inr, ⊎_elim}
@@ -8,7 +9,7 @@ use native.Mathlib.Decide.{ℕ_discrete}
 use native.Mathlib.Omega.{arith}
 use lib.ListN.{length, get_or, get_or-append}
 use lib.Seq.{get_or-append_seam}
-use Rattle.layout.specs.Lists.{if◌then◌else◌, In}
+use Rattle.layout.specs.Lists.{In}
 use Rattle.layout.specs.declared.node.Position.{Position}
 use Rattle.layout.specs.declared.node.Position.TheVariants.{Main, Aux, NextMain, NextAux}
 use Rattle.layout.specs.Words.{used, registered, column}

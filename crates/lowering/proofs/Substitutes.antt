@@ -1,4 +1,5 @@
 -- One substitution of the definitions is one step of the theory. Assumes nothing.
+use Rattle.std.specs.Prelude.{if◌then◌else◌}
 use Prim.Native.Nat.{ℕ, suc, ◌+◌, ◌*◌, ◌≤◌, ◌<◌}
 use mathlib.Core.Path.{◌≡◌, refl, sym, ◌∙◌, ap, ap₂}
 use mathlib.Core.Logic.{◌≢◌, ◌⊎◌, inl, inr, ⊎_elim}
@@ -10,7 +11,6 @@ use native.Mathlib.Omega.{arith}
 use lib.ListN.{length, get_or}
 use borrow.Author.Tests.{le-ltb}
 use Rattle.arithmetic.specs.Base.{minus_one}
-use Rattle.layout.specs.Lists.{if◌then◌else◌}
 use Rattle.layout.specs.declared.node.Position.{Position}
 use Rattle.layout.specs.declared.node.Position.TheVariants.{Main, Aux}
 use Rattle.layout.specs.declared.node.Expression.TheVariants.{Input}

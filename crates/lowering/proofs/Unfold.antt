@@ -1,4 +1,5 @@
 -- The shape of a node is one shape; substitution and values; substitution and degrees. Assumes nothing.
+use Rattle.std.specs.Prelude.{if◌then◌else◌}
 use Prim.Native.Nat.{ℕ, zero, suc, ◌≤◌, max}
 use mathlib.Core.Path.{◌≡◌, refl, ◌∙◌, ap, ap₂}
 use mathlib.Core.Logic.{◌≢◌}
@@ -9,7 +10,6 @@ use Rattle.arithmetic.specs.declared.Triple.{Triple}
 use Rattle.arithmetic.specs.Base.{add, multiply}
 use Rattle.arithmetic.specs.Extension.{Canonical, lift, plus, times}
 use Rattle.arithmetic.proofs.Algebra.{canonical_plus, canonical_times, lift_plus, lift_times}
-use Rattle.layout.specs.Lists.{if◌then◌else◌}
 use Rattle.layout.specs.declared.node.Position.{Position}
 use Rattle.layout.specs.declared.node.Op.{Op}
 use Rattle.layout.specs.declared.node.Op.TheVariants.{Add, Multiply}

@@ -1,8 +1,8 @@
 -- Document 01, "Lowering". Assumes nothing.
-use Rattle.std.specs.Prelude.{ℕ, zero, suc, ◌+◌, Bool, ◌&&◌, ◌||◌, not, List, [], ◌∷◌, ◌++◌, map, length, set, ltb, eqb}
+use Rattle.std.specs.Prelude.{ℕ, zero, suc, ◌+◌, Bool, ◌&&◌, ◌||◌, not, List, [], ◌∷◌, ◌++◌, map, length, set, ltb, eqb, if◌then◌else◌}
 use Rattle.layout.specs.declared.node.Position.TheVariants.{Main, Aux}
 use Rattle.layout.specs.declared.node.Expression.TheVariants.{Input}
-use Rattle.layout.specs.Lists.{if◌then◌else◌, up_to, any, keep, each}
+use Rattle.layout.specs.Lists.{up_to, any, keep, each}
 use Rattle.layout.specs.Words.{used, offset, word, registered}
 use Rattle.layout.specs.Tree.{tree}
 use Rattle.building.specs.Building.{find_or_make, subtracted}

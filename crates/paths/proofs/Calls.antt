@@ -1,4 +1,5 @@
 -- Which test decides each public call, and what the call then answers and leaves. Assumes nothing.
+use Rattle.std.specs.Prelude.{if◌then◌else◌}
 use Prim.Native.Nat.{ℕ, suc, ◌+◌, ◌<◌, ◌≤◌, min}
 use mathlib.Core.Path.{◌≡◌, refl, sym, ap, ◌∙◌}
 use mathlib.Core.Bool.{Bool, true, false, ◌||◌}
@@ -8,7 +9,7 @@ use native.Mathlib.Numerals.{add-one}
 use lib.Dec.{ltb}
 use lib.ListN.{length, set, take, replicate, length-replicate}
 use borrow.Author.Tests.{lt-ltb, le-ltb, ltb-false}
-use Rattle.layout.specs.Lists.{if◌then◌else◌, up_to, any, each, written}
+use Rattle.layout.specs.Lists.{up_to, any, each, written}
 use Rattle.layout.specs.Words.{used, offset}
 use Rattle.layout.specs.NotCircuit.{not_circuit, bad_id}
 use Rattle.layout.specs.Outcomes.{refusal, outcome}

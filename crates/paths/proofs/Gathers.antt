@@ -1,4 +1,5 @@
 -- The distinct reference counts below a node, gathered over the ids that a path leads to. Assumes nothing.
+use Rattle.std.specs.Prelude.{if◌then◌else◌}
 use Prim.Native.Nat.{ℕ, zero, suc, ◌+◌, ◌<◌, ◌≤◌}
 use mathlib.Core.Path.{◌≡◌, refl, sym, ap, ◌∙◌}
 use mathlib.Core.Logic.{◌⊎◌, inl, inr, ⊎_elim}
@@ -9,7 +10,7 @@ use native.Mathlib.Numerals.{add-one}
 use lib.Dec.{ltb}
 use lib.ListN.{length, take}
 use borrow.Author.Tests.{lt-ltb, le-ltb, ltb-true}
-use Rattle.layout.specs.Lists.{if◌then◌else◌, up_to, In, each, insert}
+use Rattle.layout.specs.Lists.{up_to, In, each, insert}
 use Rattle.layout.specs.Words.{used, node_at}
 use Rattle.layout.specs.NotCircuit.{not_circuit, bad_id}
 use Rattle.layout.specs.Tree.{tree}

@@ -1,4 +1,5 @@
 -- Rising lists, each word once: how a word is inserted in memory, and that the words alone decide the list. Assumes nothing.
+use Rattle.std.specs.Prelude.{if◌then◌else◌}
 use Prim.Native.Nat.{ℕ, zero, suc, ◌+◌, ◌-◌, ◌<◌, ◌≤◌}
 use mathlib.Core.Path.{◌≡◌, refl, sym, ap, ◌∙◌}
 use mathlib.Core.Logic.{◌⊎◌, inl, inr, ⊎_elim}
@@ -10,7 +11,7 @@ use lib.Dec.{ltb, eqb}
 use lib.ListN.{length, set, take, drop, length-append, length-drop, length-set}
 use lib.Seq.{sets, sets-eq, length-take-le, drop-cons, drop-length, take_at, take-suc, take-take, get_or-take, get_or-set_other}
 use borrow.Author.Tests.{lt-ltb, le-ltb, eq-eqb, ne_eqb, ltb-true, ltb-false, eqb-true, eqb-false}
-use Rattle.layout.specs.Lists.{if◌then◌else◌, In, insert, written}
+use Rattle.layout.specs.Lists.{In, insert, written}
 use Rattle.circuit.specs.Rank.{at}
 use Rattle.paths.specs.Rising.{Placed, Words}
 use Rattle.paths.proofs.Written.{written_more}

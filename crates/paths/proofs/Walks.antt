@@ -1,4 +1,5 @@
 -- A node's walk from its operands' walks, and how often a node stands in it. Assumes nothing.
+use Rattle.std.specs.Prelude.{if◌then◌else◌}
 use Prim.Native.Nat.{ℕ, zero, suc, ◌+◌, ◌<◌, ◌≤◌}
 use mathlib.Core.Path.{◌≡◌, refl, ap, ◌∙◌}
 use mathlib.Core.Logic.{◌≢◌}
@@ -13,7 +14,7 @@ use Rattle.layout.specs.declared.node.Expression.{Expression}
 use Rattle.layout.specs.declared.node.Expression.TheVariants.{Base, Extension, Challenge, Operation, Input}
 use Rattle.circuit.specs.declared.check.Step.{Step}
 use Rattle.circuit.specs.declared.check.Step.TheVariants.{Stay, Two}
-use Rattle.layout.specs.Lists.{if◌then◌else◌, count, any}
+use Rattle.layout.specs.Lists.{count, any}
 use Rattle.layout.specs.Words.{used, expression_at}
 use Rattle.layout.specs.NotCircuit.{not_circuit, bad_id}
 use Rattle.layout.specs.Tree.{Tree, tree_over, tree}

@@ -1,6 +1,6 @@
 -- Reference counts in memory: what the inner calls that test, write and gather them ask and answer. Assumes nothing.
-use Rattle.std.specs.Prelude.{ℕ, ◌+◌, ◌<◌, ◌≤◌, ◌≡◌, false, List, [], length, set, take, ltb}
-use Rattle.layout.specs.Lists.{if◌then◌else◌, up_to, each, insert}
+use Rattle.std.specs.Prelude.{ℕ, ◌+◌, ◌<◌, ◌≤◌, ◌≡◌, false, List, [], length, set, take, ltb, if◌then◌else◌}
+use Rattle.layout.specs.Lists.{up_to, each, insert}
 use Rattle.layout.specs.Words.{used, offset, node_at}
 use Rattle.layout.specs.NotCircuit.{not_circuit}
 use Rattle.circuit.specs.Rank.{at}

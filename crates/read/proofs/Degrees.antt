@@ -1,4 +1,5 @@
 -- Degrees under the cap: what is not told apart does not matter to a sum or a product. Assumes nothing.
+use Rattle.std.specs.Prelude.{if◌then◌else◌}
 use Prim.Native.Nat.{ℕ, zero, suc, ◌+◌, ◌-◌, ◌<◌, ◌≤◌, min}
 use mathlib.Core.Path.{◌≡◌, refl, sym, ap, ◌∙◌}
 use mathlib.Core.Logic.{◌≢◌}
@@ -11,7 +12,6 @@ use Rattle.layout.specs.declared.node.Op.{Op}
 use Rattle.layout.specs.declared.node.Op.TheVariants.{Add, Multiply}
 use Rattle.layout.specs.NotCircuit.{not_circuit}
 use Rattle.layout.specs.Words.{used, expression_at}
-use Rattle.layout.specs.Lists.{if◌then◌else◌}
 use Rattle.layout.specs.Tree.{Leaf, base_leaf, extension_leaf, challenge_leaf, input_leaf, Tree, branch}
 use Rattle.reading.specs.Readings.{leaf_degree⁺, product_degree⁺, degree⁺, signed}
 use Rattle.read.specs.declared.step.Step.TheVariants.{Stay}

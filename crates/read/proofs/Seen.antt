@@ -1,4 +1,5 @@
 -- Visible nodes are the classes below the roots: one of each structure is one of each class, and so as many as there are marks. Assumes nothing.
+use Rattle.std.specs.Prelude.{if◌then◌else◌}
 use Prim.Native.Nat.{ℕ, zero, suc, ◌+◌, ◌<◌}
 use mathlib.Core.Path.{◌≡◌, refl, sym, ap, ◌∙◌}
 use mathlib.Core.Logic.{◌⊎◌, inl, inr, ⊎_elim, ◌≢◌}
@@ -10,7 +11,7 @@ use lib.Dec.{eqb}
 use lib.ListN.{length, set, replicate, length-map}
 use lib.Seq.{get_or-set_same, get_or-set_other}
 use borrow.Author.Tests.{eqb-true, eq-eqb, ne_eqb, lt-ltb, le-ltb}
-use Rattle.layout.specs.Lists.{if◌then◌else◌, In, any, distinct, up_to, bit}
+use Rattle.layout.specs.Lists.{In, any, distinct, up_to, bit}
 use Rattle.layout.specs.Words.{used}
 use Rattle.layout.specs.Tree.{tree, same}
 use Rattle.layout.specs.NotCircuit.{not_circuit, bad_id}

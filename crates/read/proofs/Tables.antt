@@ -1,4 +1,5 @@
 -- The laws of the tables in which the recursions remember answers: one node asked for, and its operands. Assumes nothing.
+use Rattle.std.specs.Prelude.{if◌then◌else◌}
 use Prim.Native.Nat.{ℕ, ◌+◌, ◌<◌, ◌≤◌}
 use mathlib.Core.Path.{◌≡◌, refl, sym, ap, ◌∙◌}
 use mathlib.Core.Logic.{◌≢◌, ⊎_elim}
@@ -13,7 +14,6 @@ use lib.Seq.{get_or-set_same, get_or-set_other}
 use Rattle.layout.specs.declared.node.Op.{Op}
 use Rattle.layout.specs.declared.node.Expression.{Expression}
 use Rattle.layout.specs.declared.node.Expression.TheVariants.{Base, Extension, Challenge, Operation, Input}
-use Rattle.layout.specs.Lists.{if◌then◌else◌}
 use Rattle.layout.specs.Words.{used, offset, expression_at}
 use Rattle.layout.specs.Tree.{Leaf, base_leaf, extension_leaf, challenge_leaf, input_leaf, Tree, leaf, branch, tree_over, tree}
 use Rattle.layout.specs.NotCircuit.{not_circuit}

@@ -1,12 +1,12 @@
 -- Document 01, "Readings": each worked out from its two operands' own answers, on the tree. Assumes nothing.
-use Rattle.std.specs.Prelude.{ℕ, zero, suc, ◌+◌, max, Bool, true, false, ◌&&◌, length, ℤ, pos, negsuc, ltb, eqb}
+use Rattle.std.specs.Prelude.{ℕ, zero, suc, ◌+◌, max, Bool, true, false, ◌&&◌, length, ℤ, pos, negsuc, ltb, eqb, if◌then◌else◌}
 use mathlib.Core.List.{List, map, foldr}
 use Rattle.arithmetic.specs.declared.Triple.{Triple}
 use Rattle.arithmetic.specs.Extension.{lift}
 use Rattle.layout.specs.declared.node.Position.{Position}
 use Rattle.layout.specs.declared.node.Position.TheVariants.{Main, Aux, NextMain, NextAux}
 use Rattle.layout.specs.declared.node.Op.TheVariants.{Add, Multiply}
-use Rattle.layout.specs.Lists.{if◌then◌else◌, distinct}
+use Rattle.layout.specs.Lists.{distinct}
 use Rattle.layout.specs.Words.{is_main, apply}
 use Rattle.layout.specs.Tree.{Leaf, base_leaf, extension_leaf, challenge_leaf, input_leaf, Tree, leaf, branch, tree, same}
 use Rattle.walking.specs.Paths.{walks}

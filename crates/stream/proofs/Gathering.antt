@@ -1,4 +1,5 @@
 -- Laws of gathering a line: what it makes of the stream. Assumes nothing.
+use Rattle.std.specs.Prelude.{if◌then◌else◌}
 use Prim.Native.Nat.{ℕ, suc, ◌+◌, ◌≤◌, ◌<◌}
 use mathlib.Core.Path.{◌≡◌, refl, sym, ap, ◌∙◌, subst}
 use mathlib.Core.Bool.{Bool, true, false}
@@ -9,7 +10,6 @@ use lib.ListN.{length, get_or, set, take, drop, drop_of_length-le}
 use lib.Seq.{take-suc-set, length-take-le, drop-cons}
 use lib.Dec.{eqb}
 use borrow.Author.Tests.{lt-ltb, le-ltb, eq-eqb, ne_eqb, eqb-true, eqb-false}
-use Rattle.layout.specs.Lists.{if◌then◌else◌}
 use Rattle.stream.specs.Stream.{Program, Stream, stream, Fed, kept_with, fed_one, fed, Line, line_of, gathered}
 
 -- characters

@@ -1,4 +1,5 @@
 -- A line longer than any frame asks for nothing, so that its first 51 characters say all of it. Assumes nothing.
+use Rattle.std.specs.Prelude.{if◌then◌else◌}
 use Prim.Native.Nat.{ℕ, ◌*◌, ◌≤◌, ◌<◌}
 use mathlib.Core.Path.{◌≡◌, refl, sym, ap, ◌∙◌}
 use mathlib.Core.Bool.{Bool, true, false, ◌&&◌}
@@ -10,7 +11,7 @@ use lib.Seq.{take_all, length-take-le}
 use lib.Dec.{eqb}
 use borrow.Author.Tests.{ne_eqb}
 use Rattle.layout.specs.declared.node.Op.TheVariants.{Add, Multiply}
-use Rattle.layout.specs.Lists.{if◌then◌else◌, all}
+use Rattle.layout.specs.Lists.{all}
 use Rattle.framing.specs.declared.Request.{Request}
 use Rattle.framing.specs.declared.Request.TheVariants.{Start, Input, Challenge, Base, Extension, Operation, Subtract, Negate, Root, Lower, Nothing}
 use Rattle.framing.specs.Digits.{is_digit, bytes_of, number_at}

@@ -1,4 +1,5 @@
 -- Laws of a program on its input: part after part is the same as all at once, and all at once is line by line. Assumes nothing.
+use Rattle.std.specs.Prelude.{if◌then◌else◌}
 use Prim.Native.Nat.{ℕ, zero, suc, ◌≤◌, ◌<◌}
 use mathlib.Core.Path.{◌≡◌, refl, sym, ap, ◌∙◌}
 use mathlib.Core.Bool.{Bool, true, false}
@@ -8,7 +9,6 @@ use lib.ListN.{length, take, length-append, length-take}
 use lib.Seq.{take_all, take-append-le, append_snoc}
 use lib.Dec.{ltb, eqb}
 use borrow.Author.Tests.{ltb-true, ltb-false}
-use Rattle.layout.specs.Lists.{if◌then◌else◌}
 use Rattle.framing.specs.Frames.{begin, lines}
 use Rattle.stream.specs.Stream.{Program, Stream, stream, kept_with, fed_one, fed, ended_with, answered, whole}
 

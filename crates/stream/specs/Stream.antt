@@ -1,6 +1,5 @@
 -- A program that answers lines, on its input, byte by byte: what it keeps, and what it has answered. Assumes nothing.
-use Rattle.std.specs.Prelude.{ℕ, suc, ◌+◌, ◌<◌, ◌≤◌, ◌≡◌, Bool, true, false, List, [], ◌∷◌, ◌++◌, length, take, ltb, eqb}
-use Rattle.layout.specs.Lists.{if◌then◌else◌}
+use Rattle.std.specs.Prelude.{ℕ, suc, ◌+◌, ◌<◌, ◌≤◌, ◌≡◌, Bool, true, false, List, [], ◌∷◌, ◌++◌, length, take, ltb, eqb, if◌then◌else◌}
 use Rattle.frame.specs.Puts.{Put}
 
 -- how many characters are kept of a line, what a line makes of the state, and the line that it is answered, line feed included
