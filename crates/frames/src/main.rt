@@ -1,7 +1,7 @@
 // Document 01's frame program: answers the frames on standard input, a line for each line, as soon as they have been read. Its memory is constant.
 #![tactic(auto)]
 
-ghost use Rattle.std.specs.Prelude.{◌≤◌, length, take, IfOk};
+ghost use Rattle.std.specs.Prelude.{ℕ, ◌≤◌, length, take, IfOk, OnErr};
 ghost use Rattle.framing.specs.States.{lent};
 ghost use Rattle.kept.specs.Keeps.{Keeps};
 ghost use Rattle.stream.specs.Stream.{stream, Roomy, Poured};
@@ -33,6 +33,7 @@ fn pour(
 ) -> io::Result<usize>
     requires { Roomy 51 line.old kept (room main.old aux.old) out.old 0 × Keeps m.old numbers.old table.old least.old }
     ensures poured { IfOk result (λ after. Poured frames_program (stream (lent m.old roots.old main.old aux.old) (take kept line.old)) part.now (lent m.new roots.new main.new aux.new) line.new after) }
+    ensures err { OnErr result ((fed : ℕ) × ((after : ℕ) × Poured frames_program (stream (lent m.old roots.old main.old aux.old) (take kept line.old)) (take fed part.now) (lent m.new roots.new main.new aux.new) line.new after)) }
     ensures keeps { Keeps m.new numbers.new table.new least.new }
 {
     let mut count = kept;
