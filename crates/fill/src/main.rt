@@ -2,11 +2,11 @@
 // its memory is constant.
 #![tactic(auto)]
 
-ghost use Rattle.std.specs.Prelude.{◌≤◌, length, take, IfOk};
+ghost use Rattle.std.specs.Prelude.{ℕ, ◌≤◌, length, take, IfOk, OnErr};
 ghost use Rattle.framing.specs.States.{lent};
-ghost use Rattle.kept.specs.Keeps.{Keeps};
 ghost use Rattle.stream.specs.Stream.{stream, Roomy, Poured};
 ghost use Rattle.desk.specs.Desks.{desk};
+ghost use Rattle.desk_line.specs.declared.feed.Step.{Step};
 ghost use Rattle.desk_line.specs.Feeds.{fill_program, fill_room, Deskable};
 
 use classes::least::LEAST;
@@ -43,7 +43,7 @@ fn pour(
 ) -> io::Result<Step>
     requires { Roomy 131075 line.old kept.kept fill_room out.old 0 × Deskable m.old numbers.old table.old least.old main.old aux.old challenges.old kept.given row_main.old row_aux.old }
     ensures poured { IfOk result (λ s. Poured fill_program (stream (desk (lent m.old roots.old main.old aux.old) kept.latest (take kept.given challenges.old)) (take kept.kept line.old)) part.now (desk (lent m.new roots.new main.new aux.new) s.latest (take s.given challenges.new)) line.new s.kept × Deskable m.new numbers.new table.new least.new main.new aux.new challenges.new s.given row_main.new row_aux.new) }
-    ensures keeps { Keeps m.new numbers.new table.new least.new }
+    ensures err { OnErr result ((fed : ℕ) × ((s : Step) × (Poured fill_program (stream (desk (lent m.old roots.old main.old aux.old) kept.latest (take kept.given challenges.old)) (take kept.kept line.old)) (take fed part.now) (desk (lent m.new roots.new main.new aux.new) s.latest (take s.given challenges.new)) line.new s.kept × Deskable m.new numbers.new table.new least.new main.new aux.new challenges.new s.given row_main.new row_aux.new))) }
 {
     let mut s = kept;
     let mut from: usize = 0;
