@@ -8,7 +8,7 @@ crate=$1
 shift
 work=$(mktemp -d)
 trap 'rm -rf "$work"' EXIT
-(cd "$root" && git ls-files -z crates crates.txt | tar -c --null -T -) | tar -x -C "$work"
+(cd "$root" && git ls-files -z --cached --others --exclude-standard crates crates.txt | tar -c --null -T -) | tar -x -C "$work"
 mv "$work/crates/$crate/must-fail" "$work/edits"
 cp -r "$work/crates/$crate" "$work/whole"
 for label in "$@"; do
