@@ -17,31 +17,46 @@ use std::io;
 // 4,096 places, and one more that no circuit uses.
 const WORDS: usize = 24584;
 
+fn say(rt: &impl Print, what: &str, n: u64) -> io::Result<()> {
+    print!(rt; "{what}{n}")
+}
+
 fn say_answer(rt: &impl Print, what: &str, a: Answer) -> io::Result<()> {
+    print!(rt; "{what}")?;
     match a {
-        Answer::Id(i) => println!(rt; "{what}id {i}"),
-        Answer::Refused(n) => println!(rt; "{what}refused {n}"),
+        Answer::Id(i) => say(rt, "id ", i)?,
+        Answer::Refused(n) => say(rt, "refused ", n)?,
     }
+    println!(rt; "")
 }
 
 fn say_count(rt: &impl Print, what: &str, c: Counted) -> io::Result<()> {
+    print!(rt; "{what}")?;
     match c {
-        Counted::Count(n) => println!(rt; "{what}{n}"),
-        Counted::Refused(n) => println!(rt; "{what}refused {n}"),
+        Counted::Count(n) => say(rt, "", n)?,
+        Counted::Refused(n) => say(rt, "refused ", n)?,
     }
+    println!(rt; "")
+}
+
+fn say_counts(rt: &impl Print, a: u64, b: u64) -> io::Result<()> {
+    say(rt, "main ", a)?;
+    say(rt, ", auxiliary ", b)
 }
 
 fn say_lowered(rt: &impl Print, what: &str, l: Lowered) -> io::Result<()> {
+    print!(rt; "{what}")?;
     match l {
-        Lowered::Counts(a, b) => println!(rt; "{what}main {a}, auxiliary {b}"),
-        Lowered::Refused(n) => println!(rt; "{what}refused {n}"),
+        Lowered::Counts(a, b) => say_counts(rt, a, b)?,
+        Lowered::Refused(n) => say(rt, "refused ", n)?,
     }
+    println!(rt; "")
 }
 
 fn say_started(rt: &impl Print, s: Started) -> io::Result<()> {
     match s {
         Started::Fresh => Ok(()),
-        Started::Refused(n) => print!(rt; "start refused {n}"),
+        Started::Refused(n) => say(rt, "start refused ", n),
     }
 }
 
@@ -195,12 +210,21 @@ fn join(m: &mut [u64], o: Op, n: u64) -> u64 {
 }
 
 // Whether a degree that is told is the right one.
-fn say_degree(rt: &impl Print, what: &str, d: Degree, right: i64) -> io::Result<()> {
-    match d {
-        Degree::Found(n) if n == right => println!(rt; "{what}told"),
-        Degree::Found(_) => println!(rt; "{what}another is told"),
-        Degree::Refused(n) => println!(rt; "{what}refused {n}"),
+fn say_equal(rt: &impl Print, n: i64, right: i64) -> io::Result<()> {
+    if n == right {
+        print!(rt; "told")
+    } else {
+        print!(rt; "another is told")
     }
+}
+
+fn say_degree(rt: &impl Print, what: &str, d: Degree, right: i64) -> io::Result<()> {
+    print!(rt; "{what}")?;
+    match d {
+        Degree::Found(n) => say_equal(rt, n, right)?,
+        Degree::Refused(n) => say(rt, "refused ", n)?,
+    }
+    println!(rt; "")
 }
 
 // x^(2^31 - 1), and x times that.
@@ -224,13 +248,12 @@ fn references_of(n: NodeRead) -> u64 {
 
 // The paths from the roots to node 0, counted.
 fn say_paths(rt: &impl Print, what: &str, m: &mut [u64], roots: &[u64]) -> io::Result<()> {
+    print!(rt; "{what}")?;
     match count_references(m, roots) {
-        walking::Counted::Written => {
-            let n = references_of(read(m, 0));
-            println!(rt; "{what}{n}")
-        }
-        walking::Counted::Refused(n) => println!(rt; "{what}refused {n}"),
+        walking::Counted::Written => say(rt, "", references_of(read(m, 0)))?,
+        walking::Counted::Refused(n) => say(rt, "refused ", n)?,
     }
+    println!(rt; "")
 }
 
 // (2^32 - 1)·x as a sum, and x added to that.
