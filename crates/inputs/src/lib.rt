@@ -1,7 +1,7 @@
 // The program's arguments, and reading into lent bytes.
 #![tactic(auto)]
 
-ghost use Rattle.std.specs.Prelude.{◌<◌, ◌≤◌, length, take, IfOk};
+ghost use Rattle.std.specs.Prelude.{ℕ, ◌<◌, ◌≤◌, length, take, IfOk, OnErr, IsSome, IsUtf8};
 ghost use Rattle.std.specs.Io.KnownBytes.{Consumes, IsAtEnd};
 
 use std::env::Env;
@@ -9,11 +9,13 @@ use std::fs::Files;
 use std::io::Read;
 use std::{fs, io, str};
 
-// Reads until the bytes are full or the input ends, and answers how many were read. After an error some may have been read.
+// Reads until the bytes are full or the input ends, and answers how many were read. After an error the first of them are what was read
+// until then.
 pub fn read_full<R: Read>(input: &mut R, part: &mut [u8]) -> io::Result<usize>
     ensures bound { IfOk result (λ n. n ≤ length part.new) }
     ensures bytes { IfOk result (λ n. Consumes (R.remaining input.old) (R.remaining input.new) (take n part.new)) }
     ensures end { IfOk result (λ n. n < length part.new → IsAtEnd (R.remaining input.new)) }
+    ensures err { OnErr result ((n : ℕ) × ((n ≤ length part.new) × Consumes (R.remaining input.old) (R.remaining input.new) (take n part.new))) }
 {
     let mut done = 0;
     while done < part.len() {
@@ -37,7 +39,9 @@ pub fn argument(rt: &impl Env, i: usize, name: &mut [u8]) -> usize
 }
 
 // Opens the file of this name for reading; none where it cannot be opened, or its name is no text.
-pub fn opened<R: Files>(rt: &R, name: &[u8]) -> Option<R::File> {
+pub fn opened<R: Files>(rt: &R, name: &[u8]) -> Option<R::File>
+    ensures { IsSome result → IsUtf8 name.now }
+{
     match str::from_utf8(name) {
         Ok(path) => fs::open(rt, path).ok(),
         Err(_) => None,

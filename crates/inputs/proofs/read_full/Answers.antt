@@ -34,4 +34,5 @@ loop-done-preserved g c = record {
 
 pub returns-then-n-eq0-clause-bytes : goal.returns-then-n-eq0-clause-bytes
 returns-then-n-eq0-clause-bytes g c =
-    filled _ _ _ _ _ _ _ _ (omega (arith, c.if-n-eq0.true)) c.loop-done.invariant.within c.in_ok-n.ensures.bound.0 c.loop-done.invariant.bytes c.in_ok-n.ensures.bytes.0
+    let ends : c.loop-done.done + c.in_ok-n.n ≡ c.loop-done.done = omega (arith, c.if-n-eq0.true) in
+    filled _ _ _ c.loop-done.done _ c.loop-done.done _ _ ends c.loop-done.invariant.within c.in_ok-n.ensures.bound.0 c.loop-done.invariant.bytes c.in_ok-n.ensures.bytes.0
