@@ -28,7 +28,7 @@ module _ {main_count aux_count : ℕ} {m order rank mains auxs bases targets : L
   pub lowerable_reached : (main_reach aux_reach : List ℕ) → 4096 ≤ length main_reach → 4096 ≤ length aux_reach → Filled (used m) (at main_reach) (reach_to true m) → Filled (used m) (at aux_reach) (reach_to false m) → Reached m main_reach aux_reach
   lowerable_reached main_reach aux_reach k l f g =
       let t = valid_top m v.listing.valid in
-      record { valid = v.listing.valid; main_room_lem = omega arith; aux_room_lem = omega arith; main_told = f; aux_told = g }
+      record { valid = v.listing.valid; main_room = omega arith; aux_room = omega arith; main_told = f; aux_told = g }
 
   pub main_listable : {main_reach aux_reach : List ℕ} → Reached m main_reach aux_reach → Listable m main_reach aux_reach main_count 0 mains targets
   main_listable r = let t = v.targets_room in record { reached = r; ids = v.listing.main_ids; fits = v.main_fits; room = omega arith }

@@ -14,7 +14,7 @@ use Rattle.layout.proofs.Tests.{any_start, any-more}
 use Rattle.read.proofs.Lists.{any_append, any_three, any_none_yet}
 use Rattle.filling.specs.Refusals.{bad_rows}
 use Rattle.filling.specs.Calls.{row_cleared, all_rows, each_row}
-use Rattle.filling.proofs.Cleared.{kind_one, kind_wide, sizes, aux_room_lem, inside, clears}
+use Rattle.filling.proofs.Cleared.{kind_one, kind_wide, sizes, aux_room, inside, clears}
 use Rattle.fillable.specs.Given.{given_words}
 use Rattle.fillable.specs.Beside.{row_of, bad_beside, bad_table_beside, Rowed}
 
@@ -95,10 +95,10 @@ module _ (main_count aux_count : ℕ) (m mains auxs challenges : List ℕ) (rows
 
   -- where the cells lie
   room : main_count + length mains ≤ a
-  room = (sizes main_count aux_count m mains auxs challenges rows main aux tested).main_room_lem
+  room = (sizes main_count aux_count m mains auxs challenges rows main aux tested).main_room
 
   room' : 3 * aux_count + 3 * length auxs ≤ b
-  room' = aux_room_lem main_count aux_count m mains auxs challenges rows main aux valid tested
+  room' = aux_room main_count aux_count m mains auxs challenges rows main aux valid tested
 
   main_given : any bad_word given.0 ≡ bad_table_beside a main_count (main_count + length mains) filled main
   unfolding row_cleared

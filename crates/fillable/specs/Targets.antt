@@ -46,8 +46,8 @@ wrong_for_main a b m e = reads_unfilled a b m e || not (is_base (tree m e))
 -- a circuit, and how far each of its nodes reads
 pub record Reached (m main_reach aux_reach : List ℕ) : Type 0 where
   pub valid : not_circuit m ≡ false
-  pub main_room_lem : used m ≤ length main_reach
-  pub aux_room_lem : used m ≤ length aux_reach
+  pub main_room : used m ≤ length main_reach
+  pub aux_room : used m ≤ length aux_reach
   pub main_told : Filled (used m) (at main_reach) (reach_to true m)
   pub aux_told : Filled (used m) (at aux_reach) (reach_to false m)
 

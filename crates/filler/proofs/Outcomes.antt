@@ -109,8 +109,8 @@ module _ (main_count aux_count rows : ℕ) (m mains auxs challenges main aux : L
 
     pub columns_fit : (main_count + length mains ≤ length main) × (aux_count + length auxs ≤ length aux)
     columns_fit =
-        let a = sized.main_room_lem in
-        let b = sized.aux_room_lem in
+        let a = sized.main_room in
+        let b = sized.aux_room in
         let c = div-le_self (length main) rows in
         let d = div-le_self (length aux) (3 * rows) in
         (omega arith, omega arith)
@@ -135,8 +135,8 @@ module _ (main_count aux_count rows : ℕ) (m mains auxs challenges main aux : L
             found = found;
             is_fresh = refl;
             is_items = refl;
-            main_fits = sized.main_room_lem;
-            aux_fits = sized.aux_room_lem;
+            main_fits = sized.main_room;
+            aux_fits = sized.aux_room;
             reads = sized.reads;
             small = record { main_small = omega arith; aux_small = omega arith; new_small = omega arith };
           }

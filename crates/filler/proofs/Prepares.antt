@@ -109,7 +109,7 @@ module _ (s : Shape) (m mains auxs challenges targets bases plan₀ : List ℕ) 
     main_words_lem =
         let x = main_written s.main s.aux s.row s.wide m mains auxs challenges targets main aux fit ok.found main_long aux_long in
         let n = x.number in
-        let room = fit.main_room_lem in
+        let room = fit.main_room in
         same_words_lem x.words (words_for w.0 targets' (length mains)) (length mains) n (words_length w.0 targets' (length mains)) (λ k l.
         sym (sets_at x.words main s.main k (omega arith) (omega arith)) ∙ ap (λ (y : List ℕ). get_or y (s.main + k) 0) (sym x.is)
         ∙ ap (λ (y : Triple). y.c0) (new_main_lem s.main s.aux s.row s.wide m mains auxs challenges targets main aux fit ok.found main_long aux_long k l)
@@ -119,7 +119,7 @@ module _ (s : Shape) (m mains auxs challenges targets bases plan₀ : List ℕ) 
     aux_words_lem =
         let x = aux_written s.main s.aux s.row s.wide m mains auxs challenges targets main aux fit ok.found main_long aux_long in
         let n = x.number in
-        let room = fit.aux_room_lem in
+        let room = fit.aux_room in
         let i = ok.is_items in
         same_words_lem x.words (triples_for bases w targets' (length mains) (length auxs)) (3 * length auxs) n (triples_length bases w targets' (length mains) (length auxs))
         (words_of x.words (triples_for bases w targets' (length mains) (length auxs)) (length auxs) (λ k l.

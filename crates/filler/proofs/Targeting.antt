@@ -101,8 +101,8 @@ module _ (s : Shape) (m mains auxs challenges targets : List ℕ) (ok : RightLis
         aux_ids = listed m auxs ok.aux_ids;
         mains_right = right_lists.0;
         auxs_right = right_lists.1;
-        main_room_lem = ⊎_elim (λ e. let x : length main ≡ 1 * s.row = rw e at p in omega arith) (λ e. let x : length main ≡ 2 * s.row = rw e at p in omega arith) (kinds m ok.valid);
+        main_room = ⊎_elim (λ e. let x : length main ≡ 1 * s.row = rw e at p in omega arith) (λ e. let x : length main ≡ 2 * s.row = rw e at p in omega arith) (kinds m ok.valid);
         main_next = λ e. let x : length main ≡ 2 * s.row = rw e at p in omega arith;
-        aux_room_lem = ⊎_elim (λ e. let x : length aux ≡ 1 * (3 * s.wide) = rw e at q in omega arith) (λ e. let x : length aux ≡ 2 * (3 * s.wide) = rw e at q in omega arith) (kinds m ok.valid);
+        aux_room = ⊎_elim (λ e. let x : length aux ≡ 1 * (3 * s.wide) = rw e at q in omega arith) (λ e. let x : length aux ≡ 2 * (3 * s.wide) = rw e at q in omega arith) (kinds m ok.valid);
         aux_next = λ e. let x : length aux ≡ 2 * (3 * s.wide) = rw e at q in omega arith;
       }

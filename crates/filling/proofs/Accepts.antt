@@ -116,14 +116,14 @@ module _ (main_count aux_count : ℕ) (m mains auxs challenges main aux : List �
     rooms : Fits
     rooms = fits ok.rows
 
-    pub main_room_lem : main_count + length mains ≤ length main
-    main_room_lem = ⊎_elim (λ e. let f : main_count + length mains ≤ length main / 1 = rw e at rooms.main_fits in omega arith) (λ e. let f : main_count + length mains ≤ length main / 2 = rw e at rooms.main_fits in omega arith) (kinds m ok.valid)
+    pub main_room : main_count + length mains ≤ length main
+    main_room = ⊎_elim (λ e. let f : main_count + length mains ≤ length main / 1 = rw e at rooms.main_fits in omega arith) (λ e. let f : main_count + length mains ≤ length main / 2 = rw e at rooms.main_fits in omega arith) (kinds m ok.valid)
 
     pub main_next : row_kind m ≡ 2 → main_count + length mains ≤ length main / 2
     main_next e = rw e at rooms.main_fits
 
-    pub aux_room_lem : 3 * aux_count + 3 * length auxs ≤ length aux
-    aux_room_lem = ⊎_elim (λ e. let f : aux_count + length auxs ≤ length aux / 3 = rw e at rooms.aux_fits in omega arith) (λ e. let f : aux_count + length auxs ≤ length aux / 6 = rw e at rooms.aux_fits in omega arith) (kinds m ok.valid)
+    pub aux_room : 3 * aux_count + 3 * length auxs ≤ length aux
+    aux_room = ⊎_elim (λ e. let f : aux_count + length auxs ≤ length aux / 3 = rw e at rooms.aux_fits in omega arith) (λ e. let f : aux_count + length auxs ≤ length aux / 6 = rw e at rooms.aux_fits in omega arith) (kinds m ok.valid)
 
     pub aux_next : row_kind m ≡ 2 → 3 * aux_count + 3 * length auxs ≤ length aux / 2
     aux_next e = let f : aux_count + length auxs ≤ length aux / 6 = rw e at rooms.aux_fits in omega arith

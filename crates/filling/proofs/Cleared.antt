@@ -49,8 +49,8 @@ module _ (main_count aux_count : ℕ) (m mains auxs challenges : List ℕ) (rows
     pub main_even : length main % rows ≡ 0
     pub aux_even : length aux % (3 * rows) ≡ 0
     pub challenges_even : eqb (length challenges % 3) 0 ≡ true
-    pub main_room_lem : main_count + length mains ≤ a
-    pub aux_room_lem : aux_count + length auxs ≤ length aux / (3 * rows)
+    pub main_room : main_count + length mains ≤ a
+    pub aux_room : aux_count + length auxs ≤ length aux / (3 * rows)
     pub reads : any (λ i. beyond a (length aux / (3 * rows)) (length challenges / 3) (expression_at m i)) (walks m (mains ++ auxs)) ≡ false
 
   pub sizes : bad_rows rows main_count aux_count m mains auxs main aux challenges ≡ false → Sizes
@@ -62,7 +62,7 @@ module _ (main_count aux_count : ℕ) (m mains auxs challenges : List ℕ) (rows
       let (r₀, r₁) = neither (ltb a (main_count + length mains)) (ltb (length aux / (3 * rows)) (aux_count + length auxs)) rooms in
       let (l₀, l₁) = and-true (eqb (length main % rows) 0) _ (not-false _ layout) in
       let (l₂, l₃) = and-true (eqb (length aux % (3 * rows)) 0) _ l₁ in
-      record { kind_fits = ltb-false _ _ z; main_even = eqb-true _ 0 l₀; aux_even = eqb-true _ 0 l₂; challenges_even = l₃; main_room_lem = ltb-false _ _ r₀; aux_room_lem = ltb-false _ _ r₁; reads = reads }
+      record { kind_fits = ltb-false _ _ z; main_even = eqb-true _ 0 l₀; aux_even = eqb-true _ 0 l₂; challenges_even = l₃; main_room = ltb-false _ _ r₀; aux_room = ltb-false _ _ r₁; reads = reads }
 
   module _ (valid : not_circuit m ≡ false) (tested : bad_rows rows main_count aux_count m mains auxs main aux challenges ≡ false) where
     sized : Sizes
@@ -81,8 +81,8 @@ module _ (main_count aux_count : ℕ) (m mains auxs challenges : List ℕ) (rows
         let some : 0 < rows = omega arith in
         ap (λ (x : ℕ). x / rows) (sym whole ∙ turned) ∙ mul-div_right (3 * (length aux / (3 * rows))) some
 
-    pub aux_room_lem : 3 * aux_count + 3 * length auxs ≤ b
-    aux_room_lem = let r = sized.aux_room_lem in let w = aux_width in omega arith
+    pub aux_room : 3 * aux_count + 3 * length auxs ≤ b
+    aux_room = let r = sized.aux_room in let w = aux_width in omega arith
 
     -- a row that is filled, and those that it reads, lie in the tables
     pub inside : (r : ℕ) → r < count → (r * a + row_kind m * a ≤ length main) × (r * b + row_kind m * b ≤ length aux)
@@ -101,8 +101,8 @@ module _ (main_count aux_count : ℕ) (m mains auxs challenges : List ℕ) (rows
         record {
           main_length = λ w p q. length-sets w.0 main_count zeros ∙ p;
           aux_length = λ w p q. length-sets w.1 (3 * aux_count) zeros' ∙ q;
-          main_next = λ w p q. sets_drop zeros w.0 main_count a (omega (arith, length-replicate {A = ℕ} (length mains) 0, sized.main_room_lem));
-          aux_next = λ w p q. sets_drop zeros' w.1 (3 * aux_count) b (omega (arith, length-replicate {A = ℕ} (3 * length auxs) 0, aux_room_lem));
+          main_next = λ w p q. sets_drop zeros w.0 main_count a (omega (arith, length-replicate {A = ℕ} (length mains) 0, sized.main_room));
+          aux_next = λ w p q. sets_drop zeros' w.1 (3 * aux_count) b (omega (arith, length-replicate {A = ℕ} (3 * length auxs) 0, aux_room));
         }
 
     pub clears : Done (row_kind m) (kind_one m valid) a b (row_cleared main_count aux_count mains auxs) clear_tame count (main, aux) given
@@ -117,7 +117,7 @@ module _ (main_count aux_count : ℕ) (m mains auxs challenges : List ℕ) (rows
           rows = λ r l.
               let w = kind_wide m valid a in
               front (row_kind m) a r main_count given.0 main (replicate (length mains) 0) (take (row_kind m * a - a) (drop (r * a + a) given.0)) w (omega (arith, (inside r l).0))
-              (omega (arith, length-replicate {A = ℕ} (length mains) 0, sized.main_room_lem)) (ap (λ (t : List ℕ × List ℕ). t.0) (clears.rows r l));
+              (omega (arith, length-replicate {A = ℕ} (length mains) 0, sized.main_room)) (ap (λ (t : List ℕ × List ℕ). t.0) (clears.rows r l));
         }
 
     pub cleared_aux_lem : Writes b count (3 * aux_count) (λ r. replicate (3 * length auxs) 0) aux given.1
@@ -128,5 +128,5 @@ module _ (main_count aux_count : ℕ) (m mains auxs challenges : List ℕ) (rows
           rows = λ r l.
               let w = kind_wide m valid b in
               front (row_kind m) b r (3 * aux_count) given.1 aux (replicate (3 * length auxs) 0) (take (row_kind m * b - b) (drop (r * b + b) given.1)) w (omega (arith, (inside r l).1))
-              (omega (arith, length-replicate {A = ℕ} (3 * length auxs) 0, aux_room_lem)) (ap (λ (t : List ℕ × List ℕ). t.1) (clears.rows r l));
+              (omega (arith, length-replicate {A = ℕ} (3 * length auxs) 0, aux_room)) (ap (λ (t : List ℕ × List ℕ). t.1) (clears.rows r l));
         }

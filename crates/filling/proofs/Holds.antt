@@ -55,9 +55,9 @@ module _ (main_count aux_count : ℕ) (m mains auxs challenges main aux : List �
     pub aux_ids : Listed m auxs
     pub mains_right : mains_wrong aux_count m main_count mains ≡ false
     pub auxs_right : auxs_wrong (main_count + length mains) m aux_count auxs ≡ false
-    pub main_room_lem : main_count + length mains ≤ length main
+    pub main_room : main_count + length mains ≤ length main
     pub main_next : row_kind m ≡ 2 → main_count + length mains ≤ length main / 2
-    pub aux_room_lem : 3 * aux_count + 3 * length auxs ≤ length aux
+    pub aux_room : 3 * aux_count + 3 * length auxs ≤ length aux
     pub aux_next : row_kind m ≡ 2 → 3 * aux_count + 3 * length auxs ≤ length aux / 2
 
   -- the row afterwards
@@ -69,12 +69,12 @@ module _ (main_count aux_count : ℕ) (m mains auxs challenges main aux : List �
     unfolding row_filled
     settled_mains =
         let after = main_filled m aux challenges main_count main mains in
-        settled_main_lem m challenges fit.valid aux_count aux mains main_count main fit.main_ids fit.mains_right fit.main_room_lem fit.main_next final
+        settled_main_lem m challenges fit.valid aux_count aux mains main_count main fit.main_ids fit.mains_right fit.main_room fit.main_next final
         (aux_agrees m challenges (main_count + length mains) after aux aux_count (3 * length auxs) (aux_filled m after challenges aux_count aux auxs) (written_aux m challenges after auxs aux_count aux) fit.aux_next)
 
     pub settled_auxs : SettledAux final m aux_count auxs
     unfolding row_filled
-    settled_auxs = settled_aux_lem m challenges fit.valid (main_count + length mains) (main_filled m aux challenges main_count main mains) auxs aux_count aux fit.aux_ids fit.auxs_right fit.aux_room_lem fit.aux_next final (agree_self m _ _ final)
+    settled_auxs = settled_aux_lem m challenges fit.valid (main_count + length mains) (main_filled m aux challenges main_count main mains) auxs aux_count aux fit.aux_ids fit.auxs_right fit.aux_room fit.aux_next final (agree_self m _ _ final)
 
     pub row-holds : Holds main_count aux_count m mains auxs challenges (row_filled main_count aux_count m mains auxs challenges (main, aux)).0 (row_filled main_count aux_count m mains auxs challenges (main, aux)).1
     unfolding assigned

@@ -28,7 +28,7 @@ use Rattle.lowering.proofs.Accepts.{peel}
 use Rattle.filling.proofs.Accepts.{kinds, outcome_number}
 use Rattle.filling.proofs.Solves.{solves}
 use Rattle.filling.proofs.Rows.{Tame, Done, each_done}
-use Rattle.filling.proofs.Cleared.{kind_one, kind_wide, Sizes, sizes, aux_width, aux_room_lem, inside, clear_tame, clears}
+use Rattle.filling.proofs.Cleared.{kind_one, kind_wide, Sizes, sizes, aux_width, aux_room, inside, clear_tame, clears}
 
 -- zeros in the cells to be filled: then every word is below p
 zeros_low : (n c : ℕ) (l : List ℕ) → c + n ≤ length l → Low c (c + n) l → any bad_word (sets l c (replicate n 0)) ≡ false
@@ -143,7 +143,7 @@ module _ (main_count aux_count : ℕ) (m mains auxs challenges : List ℕ) (rows
     width = aux_width main_count aux_count m mains auxs challenges rows main aux ok.valid ok.rows-test
 
     room : 3 * aux_count + 3 * length auxs ≤ b
-    room = aux_room_lem main_count aux_count m mains auxs challenges rows main aux ok.valid ok.rows-test
+    room = aux_room main_count aux_count m mains auxs challenges rows main aux ok.valid ok.rows-test
 
     within : (r : ℕ) → r < count → (r * a + row_kind m * a ≤ length main) × (r * b + row_kind m * b ≤ length aux)
     within = inside main_count aux_count m mains auxs challenges rows main aux ok.valid ok.rows-test
@@ -157,7 +157,7 @@ module _ (main_count aux_count : ℕ) (m mains auxs challenges : List ℕ) (rows
         record {
           main_length = λ w p q. let v = written_main m challenges w.1 mains main_count w.0 in ap length v.is ∙ length-sets w.0 main_count v.words ∙ p;
           aux_length = λ w p q. let v = written_aux m challenges (main_filled m w.1 challenges main_count w.0 mains) auxs aux_count w.1 in ap length v.is ∙ length-sets w.1 (3 * aux_count) v.words ∙ q;
-          main_next = λ w p q. let v = written_main m challenges w.1 mains main_count w.0 in ap (drop a) v.is ∙ sets_drop v.words w.0 main_count a (omega (arith, v.number, sized.main_room_lem));
+          main_next = λ w p q. let v = written_main m challenges w.1 mains main_count w.0 in ap (drop a) v.is ∙ sets_drop v.words w.0 main_count a (omega (arith, v.number, sized.main_room));
           aux_next = λ w p q. let v = written_aux m challenges (main_filled m w.1 challenges main_count w.0 mains) auxs aux_count w.1 in ap (drop b) v.is ∙ sets_drop v.words w.1 (3 * aux_count) b (omega (arith, v.number, room));
         }
 
@@ -208,14 +208,14 @@ module _ (main_count aux_count : ℕ) (m mains auxs challenges : List ℕ) (rows
       unfolding bad_rows columns
       row-test =
           let s = shares in
-          rw (s.main_rest, s.main_part, s.aux_rest, s.aux_part, sized.challenges_even, le-ltb (row_kind m) (row_kind m) (omega arith), le-ltb a (main_count + length mains) sized.main_room_lem, le-ltb (length aux / (3 * rows)) (aux_count + length auxs) sized.aux_room_lem) sized.reads
+          rw (s.main_rest, s.main_part, s.aux_rest, s.aux_part, sized.challenges_even, le-ltb (row_kind m) (row_kind m) (omega arith), le-ltb a (main_count + length mains) sized.main_room, le-ltb (length aux / (3 * rows)) (aux_count + length auxs) sized.aux_room) sized.reads
 
       module _ (low_main_lem : any bad_word (drop (r * a + a) filled.0) ≡ false) (low_aux_lem : any bad_word (drop (r * b + b) filled.1) ≡ false) where
         main_row_low : Low main_count (main_count + length mains) (row_main r)
         unfolding row_cleared
         main_row_low =
             let w = wide a in
-            row_low main given.0 (take (row_kind m * a - a) (drop (r * a + a) filled.0)) (take (row_kind m * a - a) (drop (r * a + a) given.0)) (r * a) a (row_kind m * a) main_count (length mains) (omega (arith, (within r l).0)) (wide a) sized.main_room_lem
+            row_low main given.0 (take (row_kind m * a - a) (drop (r * a + a) filled.0)) (take (row_kind m * a - a) (drop (r * a + a) given.0)) (r * a) a (row_kind m * a) main_count (length mains) (omega (arith, (within r l).0)) (wide a) sized.main_room
             ok.main_words_lem (part_low (row_kind m * a - a) (drop (r * a + a) filled.0) low_main_lem) (ap (λ (t : List ℕ × List ℕ). t.0) (cleared.rows r l))
 
         aux_row_low : Low (3 * aux_count) (3 * aux_count + 3 * length auxs) (row_aux r)
@@ -235,7 +235,7 @@ module _ (main_count aux_count : ℕ) (m mains auxs challenges : List ℕ) (rows
             ∙ refusal_next 5 (any bad_word (sets (row_main r) main_count (replicate (length mains) 0) ++ sets (row_aux r) (3 * aux_count) (replicate (3 * length auxs) 0) ++ challenges)) _
             (any_join (sets (row_main r) main_count (replicate (length mains) 0) ++ sets (row_aux r) (3 * aux_count) (replicate (3 * length auxs) 0)) challenges
             (any_join (sets (row_main r) main_count (replicate (length mains) 0)) (sets (row_aux r) (3 * aux_count) (replicate (3 * length auxs) 0))
-            (zeros_low (length mains) main_count (row_main r) (omega (arith, main_long, sized.main_room_lem)) main_row_low)
+            (zeros_low (length mains) main_count (row_main r) (omega (arith, main_long, sized.main_room)) main_row_low)
             (zeros_low (3 * length auxs) (3 * aux_count) (row_aux r) (omega (arith, aux_long, room)) aux_row_low))
             ok.challenge_words)
             ∙ refusal_next 17 (not_lowered main_count aux_count m mains auxs) [] ok.lowered ∙ refusal_none)

@@ -27,7 +27,7 @@ use Rattle.filling.proofs.Settled.{SettledMain, SettledAux, Listed, Vanishing, f
 use Rattle.filling.proofs.Tables.{sets_before, sets_after, sets_part, sets_next, tables_agree, tables_good, any_low, low_any, any_join}
 use Rattle.filling.proofs.Fills.{Written, written_main, written_aux, low_main_lem, low_aux_lem}
 use Rattle.filling.proofs.Holds.{Fitting, settled_mains, settled_auxs, row-holds}
-use Rattle.filling.proofs.Accepts.{Passed, passed, main_room_lem, main_next, aux_room_lem, aux_next, main_low, aux_low, evaluated, zero_value}
+use Rattle.filling.proofs.Accepts.{Passed, passed, main_room, main_next, aux_room, aux_next, main_low, aux_low, evaluated, zero_value}
 
 -- a list has an element, or is empty
 some_id : (l : List ℕ) → (l ≡ []) ⊎ ((q : ℕ) × In q l)
@@ -105,13 +105,13 @@ module _ (main_count aux_count : ℕ) (m mains auxs challenges main aux : List �
   ids_aux q k = ok.ids q (in_right q mains auxs k)
 
   room_main : main_count + length mains ≤ length main
-  room_main = main_room_lem main_count aux_count m mains auxs challenges main aux ok
+  room_main = main_room main_count aux_count m mains auxs challenges main aux ok
 
   next_main : row_kind m ≡ 2 → main_count + length mains ≤ length main / 2
   next_main = main_next main_count aux_count m mains auxs challenges main aux ok
 
   room_aux : 3 * aux_count + 3 * length auxs ≤ length aux
-  room_aux = aux_room_lem main_count aux_count m mains auxs challenges main aux ok
+  room_aux = aux_room main_count aux_count m mains auxs challenges main aux ok
 
   next_aux : row_kind m ≡ 2 → 3 * aux_count + 3 * length auxs ≤ length aux / 2
   next_aux = aux_next main_count aux_count m mains auxs challenges main aux ok
@@ -123,7 +123,7 @@ module _ (main_count aux_count : ℕ) (m mains auxs challenges main aux : List �
   final = assigned after after_aux challenges
 
   fit : Fitting main_count aux_count m mains auxs challenges main aux
-  fit = record { valid = ok.valid; main_ids = ids_main; aux_ids = ids_aux; mains_right = ok.mains_right; auxs_right = ok.auxs_right; main_room_lem = room_main; main_next = next_main; aux_room_lem = room_aux; aux_next = next_aux }
+  fit = record { valid = ok.valid; main_ids = ids_main; aux_ids = ids_aux; mains_right = ok.mains_right; auxs_right = ok.auxs_right; main_room = room_main; main_next = next_main; aux_room = room_aux; aux_next = next_aux }
 
   -- the filled tables are settled
   settled_main : SettledMain final m main_count mains

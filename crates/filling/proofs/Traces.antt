@@ -13,7 +13,7 @@ use Rattle.reading.specs.Calls.{next_row}
 use Rattle.filling.specs.Refusals.{bad_rows}
 use Rattle.filling.specs.Calls.{row_cleared, all_rows, fill_rows_call}
 use Rattle.filling.specs.Promise.{new_main, new_aux, window_of, row_then, Zero, Solves, RowByRow}
-use Rattle.filling.proofs.Cleared.{kind_one, kind_wide, sizes, aux_room_lem, inside, cleared_main_lem, cleared_aux_lem}
+use Rattle.filling.proofs.Cleared.{kind_one, kind_wide, sizes, aux_room, inside, cleared_main_lem, cleared_aux_lem}
 use Rattle.filling.proofs.RowByRow.{PassedRows, passed_rows, rows_lengths, rows_are, rows_solve}
 use Rattle.filling.proofs.Written.{row_of, sets_left, row_length, drop_row, Writes, Inside, front, row_then_lem, cleared_same, same_cleared, current_kept, next_kept}
 
@@ -55,10 +55,10 @@ module _ (main_count aux_count : ℕ) (m mains auxs challenges : List ℕ) (rows
   tested x y e f = rw (e, f) ok.rows-test
 
   room_main : main_count + length mains ≤ a
-  room_main = (sizes main_count aux_count m mains auxs challenges rows main aux ok.rows-test).main_room_lem
+  room_main = (sizes main_count aux_count m mains auxs challenges rows main aux ok.rows-test).main_room
 
   room_aux : 3 * aux_count + 3 * length auxs ≤ b
-  room_aux = aux_room_lem main_count aux_count m mains auxs challenges rows main aux ok.valid ok.rows-test
+  room_aux = aux_room main_count aux_count m mains auxs challenges rows main aux ok.valid ok.rows-test
 
   wide : (x : ℕ) → x ≤ row_kind m * x
   wide = kind_wide m ok.valid

@@ -21,7 +21,7 @@ use Rattle.lowering.proofs.Words.{look, has_used, shape_is}
 use Rattle.lowering.proofs.Proper.{Proper}
 use Rattle.lowering.proofs.Chooses.{best_choice}
 use Rattle.lowering.proofs.Substitutes.{base_shape}
-use Rattle.lowering.proofs.OneMore.{Added, OneMore, State, length_more, one_more, to_aux, to_main_lem}
+use Rattle.lowering.proofs.OneMore.{Added, OneMore, State, length_more, one_more, to_aux, to_main}
 use Rattle.grown.specs.Results.{Unique}
 use Rattle.grown.proofs.Alike.{unique_one}
 use Rattle.grown.proofs.Differences.{Less, less_kept, less_new}
@@ -46,7 +46,7 @@ pub column_bound : {T mc ac : ℕ} (x x₁ : Lowering) (one : OneMore T mc ac x 
 column_bound {mc = mc} {ac = ac} x x₁ one f = go one.added
   where
     go : Added mc ac x x₁ one.y one.q → column one.y ≤ 65535
-    go (to_main_lem e a b) = rw e (omega (arith, f.main, length_more x.main x₁.main one.q a))
+    go (to_main e a b) = rw e (omega (arith, f.main, length_more x.main x₁.main one.q a))
     go (to_aux e a b) = rw e (omega (arith, f.aux, length_more x.aux x₁.aux one.q b))
 
 -- one node of a shape
@@ -113,7 +113,7 @@ module _ (T mc ac : ℕ) (two : 2 ≤ T) where
       new = less_new T mc ac x (next T mc ac two x) state one (unique_shape x.circuit v.unique)
 
       go : Added mc ac x (next T mc ac two x) one.y one.q → Stands mc ac (next T mc ac two x)
-      go (to_main_lem e a b) = record {
+      go (to_main e a b) = record {
         unique = unique;
         main = one_longer (λ k q. Less (next T mc ac two x).circuit (Main (mc + k)) q) x.main (next T mc ac two x).main one.q a (λ k l. kept (Main (mc + k)) (get_or x.main k 0) (v.main k l)) (rw e at new);
         aux = λ k l. rw b (kept (Aux (ac + k)) (get_or x.aux k 0) (v.aux k (rw b at l)));

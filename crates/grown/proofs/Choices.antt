@@ -93,8 +93,8 @@ module _ (main_count k aux_count l : ℕ) (a : Assignment) where
       record {
         main = cells b.main main_count k;
         aux = cells b.aux aux_count l;
-        main_count_lem = cells_length b.main main_count k;
-        aux_count_lem = cells_length b.aux aux_count l;
+        main_count = cells_length b.main main_count k;
+        aux_count = cells_length b.aux aux_count l;
         base = cells_in (λ w. w < p) b.main h.main main_count k;
         extension = cells_in Canonical b.aux h.aux aux_count l;
       }
@@ -116,8 +116,8 @@ module _ (main_count k aux_count l : ℕ) (a : Assignment) where
 
     pub but_new : ButNew main_count k aux_count l a (with_new main_count aux_count a v.main v.aux)
     but_new =
-        let m = v.main_count_lem in
-        let n = v.aux_count_lem in
+        let m = v.main_count in
+        let n = v.aux_count in
         record {
           main = λ c h. row_old main_count v.main a.main c (⊎_elim inl (λ z. inr (omega arith)) h);
           aux = λ c h. row_old aux_count v.aux a.aux c (⊎_elim inl (λ z. inr (omega arith)) h);
@@ -129,6 +129,6 @@ module _ (main_count k aux_count l : ℕ) (a : Assignment) where
     -- a choice is read off the assignment that holds it
     pub choice_is : (b : Assignment) → with_new main_count aux_count a v.main v.aux ≡ b → (v.main ≡ cells b.main main_count k) × (v.aux ≡ cells b.aux aux_count l)
     choice_is b e = (
-      row_cells main_count v.main a.main b.main (λ c. ap (λ (x : Assignment). x.main c) e) ∙ ap (cells b.main main_count) v.main_count_lem,
-      row_cells aux_count v.aux a.aux b.aux (λ c. ap (λ (x : Assignment). x.aux c) e) ∙ ap (cells b.aux aux_count) v.aux_count_lem,
+      row_cells main_count v.main a.main b.main (λ c. ap (λ (x : Assignment). x.main c) e) ∙ ap (cells b.main main_count) v.main_count,
+      row_cells aux_count v.aux a.aux b.aux (λ c. ap (λ (x : Assignment). x.aux c) e) ∙ ap (cells b.aux aux_count) v.aux_count,
     )

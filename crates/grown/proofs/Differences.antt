@@ -33,7 +33,7 @@ pub record Negative (m : List ℕ) (p : ℕ) : Type 0 where
 pub record Less (m : List ℕ) (y : Position) (q : ℕ) : Type 0 where
   pub input : ℕ
   pub product : ℕ
-  pub is_input_lem : look m input ≡ some (leaf_e (input_leaf y))
+  pub is_input : look m input ≡ some (leaf_e (input_leaf y))
   pub is_sum : (look m q ≡ some (op_e Add input product)) ⊎ (look m q ≡ some (op_e Add product input))
   pub negative : Negative m product
 
@@ -109,12 +109,12 @@ module _ (T mc ac : ℕ) (x x₁ : Lowering) (state : State mc ac x) (one : OneM
 
   pub less_kept : (y : Position) (q : ℕ) → Less x.circuit y q → Less x₁.circuit y q
   less_kept y q d =
-      let f = leaf_other d.input (input_leaf y) d.is_input_lem in
+      let f = leaf_other d.input (input_leaf y) d.is_input in
       let g = product_other d.product d.negative in
       record {
         input = d.input;
         product = d.product;
-        is_input_lem = leaf_kept d.input (input_leaf y) d.is_input_lem;
+        is_input = leaf_kept d.input (input_leaf y) d.is_input;
         is_sum = ⊎_elim (λ h. inl (sum_kept q d.input d.product h f g)) (λ h. inr (sum_kept q d.product d.input h g f)) d.is_sum;
         negative = negative_kept d.product d.negative;
       }
@@ -136,5 +136,5 @@ module _ (T mc ac : ℕ) (x x₁ : Lowering) (state : State mc ac x) (one : OneM
     less_new = go one.st.step.gap
       where
         go : Gap (look x₁.circuit) one.y one.u one.q → Less x₁.circuit one.y one.q
-        go (sum n p h k e) = record { input = n; product = p; is_input_lem = h; is_sum = inl e; negative = negative_new p k }
-        go (swapped n p h k e) = record { input = n; product = p; is_input_lem = h; is_sum = inr e; negative = negative_new p k }
+        go (sum n p h k e) = record { input = n; product = p; is_input = h; is_sum = inl e; negative = negative_new p k }
+        go (swapped n p h k e) = record { input = n; product = p; is_input = h; is_sum = inr e; negative = negative_new p k }

@@ -55,7 +55,7 @@ pub x⁴_fill : OneFill 1 0 x⁴.circuit (2 ∷ []) x⁴_after (3 ∷ 0 ∷ []) 
 x⁴_fill = filled 2 1 0 x⁴ x⁴_accepted (3 ∷ 0 ∷ []) [] [] x⁴_wide
 
 abbrev nine : NewWords 1 0
-nine = record { main = 9 ∷ []; aux = []; main_count_lem = refl; aux_count_lem = refl; main_below = λ w h. ⊎_elim (λ e. omega arith) (λ k. absurd k) h; aux_below = λ w h. absurd h }
+nine = record { main = 9 ∷ []; aux = []; main_count = refl; aux_count = refl; main_below = λ w h. ⊎_elim (λ e. omega arith) (λ k. absurd k) h; aux_below = λ w h. absurd h }
 
 constraint_zero : evaluate_call x⁴_after.circuit 6 (sets (3 ∷ 0 ∷ []) 1 (9 ∷ [])) [] [] ≡ accepted (lift 0) tt
 unfolding lower_computes

@@ -156,7 +156,7 @@ module _ (m : List ℕ) where
           go l r p v w (inr k) =
               let k' = looks q (Operation Add d.product d.input) here k in
               let e : r ≡ d.input = cc in
-              absurd (no_op d.input (product_op c.u c.form.product d.input c.form.is_product (rw e at w)) d.is_input_lem)
+              absurd (no_op d.input (product_op c.u c.form.product d.input c.form.is_product (rw e at w)) d.is_input)
       at_product (inr e) h = let (l, r, p, v, w) = subst (λ (t : Shape). Unf (look m) t q) e whole in go l r p v w h
         where
           go : (l r : ℕ) → look m q ≡ some (op_e Add l r) → Unf (look m) c.form.product l → look m r ≡ some (leaf_e (input_leaf y)) → (expression_at m q ≡ Operation Add d.input d.product) ⊎ (expression_at m q ≡ Operation Add d.product d.input)
@@ -165,7 +165,7 @@ module _ (m : List ℕ) where
           go l r p v w (inl k) =
               let k' = looks q (Operation Add d.input d.product) here k in
               let e : l ≡ d.input = cc in
-              absurd (no_op d.input (product_op c.u c.form.product d.input c.form.is_product (rw e at v)) d.is_input_lem)
+              absurd (no_op d.input (product_op c.u c.form.product d.input c.form.is_product (rw e at v)) d.is_input)
 
   -- an input met on the walk is one of the shape
   reads_at : (a b : ℕ) (t : Tree) (e : ℕ) → Tru (look m) t e → Reads a b (shape t) → (i : ℕ) → In i (walk t) → (q : Position) → expression_at m i ≡ Input q → Taken a b q

@@ -46,8 +46,8 @@ values_of {k} {l} v =
     record {
       main = v.main;
       aux = triples v.aux;
-      main_count_lem = v.main_count_lem;
-      aux_count_lem = triples_length l v.aux v.aux_count_lem;
+      main_count = v.main_count;
+      aux_count = triples_length l v.aux v.aux_count;
       base = v.main_below;
       extension = λ t h. let (a, b, c) = triples_in (λ w. w < p) v.aux v.aux_below t h in record { below0 = a; below1 = b; below2 = c };
     }
@@ -57,8 +57,8 @@ words_of {k} {l} v =
     record {
       main = v.main;
       aux = words v.aux;
-      main_count_lem = v.main_count_lem;
-      aux_count_lem = omega (arith, words_length v.aux, v.aux_count_lem);
+      main_count = v.main_count;
+      aux_count = omega (arith, words_length v.aux, v.aux_count);
       main_below = v.base;
       aux_below = words_in (λ w. w < p) v.aux (λ t h. let c = v.extension t h in (c.below0, c.below1, c.below2));
     }
@@ -89,7 +89,7 @@ module _ (mc ac : ℕ) (m roots : List ℕ) (x : Lowering) (left : Remains mc ac
         let zero_at : (q : ℕ) → In q (x.main ++ x.aux) → value (with_new mc ac (assigned main aux challenges) v.main (triples v.aux)) (tree x.circuit q) ≡ lift 0 =
         λ q k. ap (λ (o : Outcome Triple (Unit {0})). o.values) (sym (evaluates_meant mc ac m x left valid' main aux challenges wide v m roots q (left.constraints q k)) ∙ h q k) in
         let (a, b) = one.only (values_of v) zero_at in
-        (a, sym (words_triples (length x.aux) v.aux v.aux_count_lem) ∙ ap words b);
+        (a, sym (words_triples (length x.aux) v.aux v.aux_count) ∙ ap words b);
   }
     where
       answer : Triple → Outcome Triple (Unit {0})

@@ -73,7 +73,7 @@ line_lists = (refl, refl, refl, refl)
 -- 10 is the input at the column 2 less node 2
 second : Difference line_after.circuit (Main 2) (get_or line_after.main 1 0)
 unfolding lower_computes
-second = record { input = 8; product = 9; minus = 5; chosen = 2; is_input_lem = refl; is_minus = refl; is_product = inl refl; is_sum = inl refl }
+second = record { input = 8; product = 9; minus = 5; chosen = 2; is_input = refl; is_minus = refl; is_product = inl refl; is_sum = inl refl }
 
 -- whose expression is (the first new column)·x: it reads column 1, and that is below 2; and it is of the base field
 pub second_reads : (In 4 (walk (tree line_after.circuit 2)) × (expression_at line_after.circuit 4 ≡ Input (Main 1))) × ((1 < 2) × (is_base (tree line_after.circuit 2) ≡ true))
@@ -92,11 +92,11 @@ x²a²_ordered = left-to-right 2 1 1 x²a² x²a²_grown x²a²_accepted
 
 main_difference : Difference x²a²_after.circuit (Main 1) (get_or x²a²_after.main 0 0)
 unfolding lower_computes
-main_difference = record { input = 5; product = 7; minus = 6; chosen = 2; is_input_lem = refl; is_minus = refl; is_product = inl refl; is_sum = inl refl }
+main_difference = record { input = 5; product = 7; minus = 6; chosen = 2; is_input = refl; is_minus = refl; is_product = inl refl; is_sum = inl refl }
 
 aux_difference : Difference x²a²_after.circuit (Aux 1) (get_or x²a²_after.aux 0 0)
 unfolding lower_computes
-aux_difference = record { input = 9; product = 10; minus = 6; chosen = 3; is_input_lem = refl; is_minus = refl; is_product = inl refl; is_sum = inl refl }
+aux_difference = record { input = 9; product = 10; minus = 6; chosen = 3; is_input = refl; is_minus = refl; is_product = inl refl; is_sum = inl refl }
 
 -- x² is read off column 0, and a² off the auxiliary column 0
 pub x²a²_uses : Uses x²a²_after.circuit 2 1 1 1 1 × Uses x²a²_after.circuit 3 2 1 1 1

@@ -22,7 +22,7 @@ use Rattle.lowering.proofs.OneStep.{tree_after}
 use Rattle.lowering.proofs.ListLaws.{in_left, in_right, in_cases}
 use Rattle.lowering.proofs.Words.{look, look_lt, tree_of}
 use Rattle.lowering.proofs.Proper.{Proper}
-use Rattle.lowering.proofs.OneMore.{Added, OneMore, Taken, State, length_more, one_more, state_after, to_aux, to_main_lem}
+use Rattle.lowering.proofs.OneMore.{Added, OneMore, Taken, State, length_more, one_more, state_after, to_aux, to_main}
 use Rattle.grown.specs.Order.{Unaltered}
 use Rattle.grown.proofs.Advances.{Fits, Stands, column_bound, next, next_stands, one_longer, unique_shape}
 use Rattle.grown.proofs.Quiet.{Quiet, quiet_kept, quiet_other}
@@ -52,7 +52,7 @@ place_in (x ∷ xs) (suc k) h = inr (place_in xs k (omega arith))
 
 -- what is listed after one more was listed, or is the new constraint
 listed_cases : (mc ac : ℕ) (x x₁ : Lowering) (y : Position) (q : ℕ) → Added mc ac x x₁ y q → (z : ℕ) → In z (x₁.main ++ x₁.aux) → In z (x.main ++ x.aux) ⊎ (z ≡ q)
-listed_cases mc ac x x₁ y q (to_main_lem e a b) z h = go (in_cases z x₁.main x₁.aux h)
+listed_cases mc ac x x₁ y q (to_main e a b) z h = go (in_cases z x₁.main x₁.aux h)
   where
     last : In z x.main ⊎ In z (q ∷ []) → In z (x.main ++ x.aux) ⊎ (z ≡ q)
     last (inl k) = inl (in_left z x.main x.aux k)
@@ -118,7 +118,7 @@ module _ (T mc ac : ℕ) (two : 2 ≤ T) (x : Lowering) (h : Holds T mc ac x) (h
 
   -- the new input is of the current row
   new_current : (y : Position) (q : ℕ) → Added mc ac x (next T mc ac two x) y q → is_next y ≡ false
-  new_current y q (to_main_lem e a b) = ap is_next e
+  new_current y q (to_main e a b) = ap is_next e
   new_current y q (to_aux e a b) = ap is_next e
 
   next_after : (i : ℕ) (q : Position) → is_next q ≡ true → look x₁.circuit i ≡ some (leaf_e (input_leaf q)) → Taken mc ac q
@@ -135,7 +135,7 @@ module _ (T mc ac : ℕ) (two : 2 ≤ T) (x : Lowering) (h : Holds T mc ac x) (h
       proper = one.proper (column_bound x (next T mc ac two x) one fits) h.proper
 
       go : Added mc ac x (next T mc ac two x) one.y one.q → Holds T mc ac (next T mc ac two x)
-      go (to_main_lem e a b) =
+      go (to_main e a b) =
           record {
             state = state_after T mc ac x x₁ h.state one;
             proper = proper;

@@ -40,7 +40,7 @@ use Rattle.filling.specs.Promise.{new_main, new_aux, Solves}
 use Rattle.filling.proofs.Values.{any-split, dual, fair}
 use Rattle.filling.proofs.Settled.{RightMain, RightAux}
 use Rattle.filling.proofs.Tables.{sets_next, any_join}
-use Rattle.filling.proofs.Accepts.{Passed, passed, outcome_number, main_room_lem, main_next, aux_room_lem, aux_next, zero_value}
+use Rattle.filling.proofs.Accepts.{Passed, passed, outcome_number, main_room, main_next, aux_room, aux_next, zero_value}
 use Rattle.filling.proofs.Solves.{sets_over, solves}
 use Rattle.grown.specs.Grown.{Grown}
 use Rattle.grown.specs.Promise.{NewValues, with_new, ExactlyOne, Promise}
@@ -101,7 +101,7 @@ module _ (T mc ac : ℕ) (lent : Lowering) (g : Grown lent.circuit) (h : (lower_
   main_right k l =
       let q : ℕ = get_or after.main k 0 in
       let here : q < used after.circuit = left.constraints q (in_left q after.main after.aux (place_in after.main k l)) in
-      let give = gives after.circuit valid (Main (mc + k)) q here (promise.main_columns_lem k l) in
+      let give = gives after.circuit valid (Main (mc + k)) q here (promise.main_columns k l) in
       let (uses, base) = order.main k l give.difference in
       record {
         e = give.difference.chosen;
@@ -114,7 +114,7 @@ module _ (T mc ac : ℕ) (lent : Lowering) (g : Grown lent.circuit) (h : (lower_
   aux_right k l =
       let q : ℕ = get_or after.aux k 0 in
       let here : q < used after.circuit = left.constraints q (in_right q after.main after.aux (place_in after.aux k l)) in
-      let give = gives after.circuit valid (Aux (ac + k)) q here (promise.aux_columns_lem k l) in
+      let give = gives after.circuit valid (Aux (ac + k)) q here (promise.aux_columns k l) in
       record {
         e = give.difference.chosen;
         is = expression_kept after.circuit m' valid kept (Aux (ac + k)) q here ∙ give.is;
@@ -177,10 +177,10 @@ module _ (T mc ac : ℕ) (lent : Lowering) (g : Grown lent.circuit) (h : (lower_
       cleared_aux = sets aux (3 * ac) (replicate (3 * length after.aux) 0)
 
       room_main : mc + length after.main ≤ length main
-      room_main = main_room_lem mc ac m' after.main after.aux challenges main aux ok
+      room_main = main_room mc ac m' after.main after.aux challenges main aux ok
 
       room_aux : 3 * ac + 3 * length after.aux ≤ length aux
-      room_aux = aux_room_lem mc ac m' after.main after.aux challenges main aux ok
+      room_aux = aux_room mc ac m' after.main after.aux challenges main aux ok
 
       next_main : row_kind m' ≡ 2 → mc + length after.main ≤ length main / 2
       next_main = main_next mc ac m' after.main after.aux challenges main aux ok
@@ -271,8 +271,8 @@ module _ (T mc ac : ℕ) (lent : Lowering) (g : Grown lent.circuit) (h : (lower_
           record {
             main = new;
             aux = triples new_a;
-            main_count_lem = new_length;
-            aux_count_lem = triples_length (length after.aux) new_a new_a_length;
+            main_count = new_length;
+            aux_count = triples_length (length after.aux) new_a new_a_length;
             base = λ w k. leb-false p w (any_false bad_word new (part_low (length after.main) mc main' (any-split bad_word main' aux' front_words).0) w k);
             extension = λ x k.
                 let (a, b, c) = triples_in (λ w. w < p) new_a (λ w i. leb-false p w (any_false bad_word new_a (part_low (3 * length after.aux) (3 * ac) aux' (any-split bad_word main' aux' front_words).1) w i)) x k in

@@ -94,7 +94,7 @@ module _ (m : List ℕ) (valid : not_circuit m ≡ false) where
             go true h =
                 let (a, b) = valid_operands m valid d.product product_here Multiply d.chosen d.minus e in
                 record {
-                  difference = record { input = d.input; product = d.product; minus = d.chosen; chosen = d.minus; is_input_lem = d.is_input_lem; is_minus = minus_is d.chosen h; is_product = inl e; is_sum = d.is_sum };
+                  difference = record { input = d.input; product = d.product; minus = d.chosen; chosen = d.minus; is_input = d.is_input; is_minus = minus_is d.chosen h; is_product = inl e; is_sum = d.is_sum };
                   is = ap (minus_times m) e ∙ rw h;
                   chosen_here = b;
                 }
@@ -115,8 +115,8 @@ module _ (m : List ℕ) (valid : not_circuit m ≡ false) where
         record {
           difference = t.difference;
           is = ⊎_elim
-              (λ e. ap (column_plus m y) e ∙ rw (input_passes y d.input d.is_input_lem) t.is)
-              (λ e. ap (column_plus m y) e ∙ rw (not_input, input_passes y d.input d.is_input_lem) t.is)
+              (λ e. ap (column_plus m y) e ∙ rw (input_passes y d.input d.is_input) t.is)
+              (λ e. ap (column_plus m y) e ∙ rw (not_input, input_passes y d.input d.is_input) t.is)
               d.is_sum;
           here = t.chosen_here;
         }

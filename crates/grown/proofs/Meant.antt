@@ -48,16 +48,16 @@ module _ (mc ac : ℕ) (m : List ℕ) (x : Lowering) (left : Remains mc ac m x) 
       leb-false (columns_lent x.circuit main aux q) (column q) (rw e at (wide.reads n (look_lt x.circuit n (leaf_e (input_leaf q)) h)))
 
   -- so do the new columns
-  main_room_lem : (v : List ℕ) → length v ≡ length x.main → (v ≡ []) ⊎ (mc + length v ≤ length main / row_kind x.circuit)
+  main_room : (v : List ℕ) → length v ≡ length x.main → (v ≡ []) ⊎ (mc + length v ≤ length main / row_kind x.circuit)
   unfolding columns_lent
-  main_room_lem [] e = inl refl
-  main_room_lem (w ∷ v) e = let (n, h) = left.main_new (length v) (omega arith) in inr (omega (arith, column_lent n (Main (mc + length v)) h))
+  main_room [] e = inl refl
+  main_room (w ∷ v) e = let (n, h) = left.main_new (length v) (omega arith) in inr (omega (arith, column_lent n (Main (mc + length v)) h))
 
-  aux_room_lem : (v : List ℕ) (l : ℕ) → l ≡ length x.aux → length v ≡ 3 * l → (v ≡ []) ⊎ (ac + l ≤ length aux / (3 * row_kind x.circuit))
+  aux_room : (v : List ℕ) (l : ℕ) → l ≡ length x.aux → length v ≡ 3 * l → (v ≡ []) ⊎ (ac + l ≤ length aux / (3 * row_kind x.circuit))
   unfolding columns_lent
-  aux_room_lem [] zero f e = inl refl
-  aux_room_lem (w ∷ v) zero f e = absurd (omega arith)
-  aux_room_lem v (suc l) f e = let (n, h) = left.aux_new l (omega arith) in inr (omega (arith, column_lent n (Aux (ac + l)) h))
+  aux_room [] zero f e = inl refl
+  aux_room (w ∷ v) zero f e = absurd (omega arith)
+  aux_room v (suc l) f e = let (n, h) = left.aux_new l (omega arith) in inr (omega (arith, column_lent n (Aux (ac + l)) h))
 
   -- a leaf of the circuit afterwards reads no further than the tables go
   read_after : (i : ℕ) (e : Expression) → look x.circuit i ≡ some (expr_of e) → reads_beyond x.circuit main aux challenges e ≡ false
@@ -80,7 +80,7 @@ module _ (mc ac : ℕ) (m : List ℕ) (x : Lowering) (left : Remains mc ac m x) 
     meant = with_new mc ac (assigned main aux challenges) v.main (triples v.aux)
 
     main_inside : (v.main ≡ []) ⊎ (mc + length v.main ≤ length main)
-    main_inside = ⊎_elim inl (λ h. inr (⊎_elim (λ e. inside_one (length main) (rw e at h)) (λ e. inside_two (length main) (rw e at h)) rows)) (main_room_lem v.main v.main_count_lem)
+    main_inside = ⊎_elim inl (λ h. inr (⊎_elim (λ e. inside_one (length main) (rw e at h)) (λ e. inside_two (length main) (rw e at h)) rows)) (main_room v.main v.main_count)
       where
         inside_one : (n : ℕ) → mc + length v.main ≤ n / 1 → mc + length v.main ≤ n
         inside_one n h = omega arith
@@ -89,7 +89,7 @@ module _ (mc ac : ℕ) (m : List ℕ) (x : Lowering) (left : Remains mc ac m x) 
         inside_two n h = omega arith
 
     aux_inside : (v.aux ≡ []) ⊎ (3 * (ac + length x.aux) ≤ length aux)
-    aux_inside = ⊎_elim inl (λ h. inr (⊎_elim (λ e. inside_one (length aux) (rw e at h)) (λ e. inside_two (length aux) (rw e at h)) rows)) (aux_room_lem v.aux (length x.aux) refl v.aux_count_lem)
+    aux_inside = ⊎_elim inl (λ h. inr (⊎_elim (λ e. inside_one (length aux) (rw e at h)) (λ e. inside_two (length aux) (rw e at h)) rows)) (aux_room v.aux (length x.aux) refl v.aux_count)
       where
         inside_one : (n : ℕ) → ac + length x.aux ≤ n / (3 * 1) → 3 * (ac + length x.aux) ≤ n
         inside_one n h = omega arith
@@ -98,13 +98,13 @@ module _ (mc ac : ℕ) (m : List ℕ) (x : Lowering) (left : Remains mc ac m x) 
         inside_two n h = omega arith
 
     next_main_lem : row_kind x.circuit ≡ 2 → next_row (sets main mc v.main) ≡ next_row main
-    next_main_lem e = stored_next main v.main mc (⊎_elim inl (λ h. inr (rw e at h)) (main_room_lem v.main v.main_count_lem))
+    next_main_lem e = stored_next main v.main mc (⊎_elim inl (λ h. inr (rw e at h)) (main_room v.main v.main_count))
 
     next_aux_lem : row_kind x.circuit ≡ 2 → next_row (sets aux (3 * ac) v.aux) ≡ next_row aux
-    next_aux_lem e = stored_next aux v.aux (3 * ac) (⊎_elim inl (λ h. inr (half (length aux) (rw e at h))) (aux_room_lem v.aux (length x.aux) refl v.aux_count_lem))
+    next_aux_lem e = stored_next aux v.aux (3 * ac) (⊎_elim inl (λ h. inr (half (length aux) (rw e at h))) (aux_room v.aux (length x.aux) refl v.aux_count))
       where
         half : (n : ℕ) → ac + length x.aux ≤ n / (3 * 2) → 3 * ac + length v.aux ≤ n / 2
-        half n h = omega (arith, v.aux_count_lem)
+        half n h = omega (arith, v.aux_count)
 
     -- the tables say what the choice means
     agrees : Agree (look x.circuit) said meant
@@ -113,7 +113,7 @@ module _ (mc ac : ℕ) (m : List ℕ) (x : Lowering) (left : Remains mc ac m x) 
       where
         at : (n : ℕ) (q : Position) → look x.circuit n ≡ some (leaf_e (input_leaf q)) → input_value said q ≡ input_value meant q
         at n (Main c) h = ap lift (stored_main main v.main mc main_inside c)
-        at n (Aux c) h = stored_aux aux v.aux ac (length x.aux) v.aux_count_lem aux_inside c
+        at n (Aux c) h = stored_aux aux v.aux ac (length x.aux) v.aux_count aux_inside c
         at n (NextMain c) h = ap (λ (t : List ℕ). lift (get_or t c 0)) (next_main_lem (dual n (NextMain c) refl h))
         at n (NextAux c) h = ap (λ (t : List ℕ). triple_at t c) (next_aux_lem (dual n (NextAux c) refl h))
 

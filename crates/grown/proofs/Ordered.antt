@@ -22,7 +22,7 @@ use Rattle.lowering.proofs.ListLaws.{any_true, in_left, in_right, in_cases}
 use Rattle.lowering.proofs.Words.{has_used}
 use Rattle.lowering.proofs.Proper.{Proper, proper_of}
 use Rattle.lowering.proofs.Chooses.{above_true}
-use Rattle.lowering.proofs.OneMore.{Added, OneMore, State, one_more, state_after, taken_more, to_aux, to_main_lem}
+use Rattle.lowering.proofs.OneMore.{Added, OneMore, State, one_more, state_after, taken_more, to_aux, to_main}
 use Rattle.lowering.proofs.Loops.{Ran, loop_ran}
 use Rattle.lowering.proofs.Fills.{start}
 use Rattle.lowering.proofs.Accepts.{First, Then, accepted, columns_start, first_tests, answer_is, tests, then_tests_lem}
@@ -57,7 +57,7 @@ loop_then T mc ac (suc j) d x = let e : suc j + d ≡ suc (j + d) = omega arith 
 
 -- what is listed stays listed
 listed_kept : (mc ac : ℕ) (x x₁ : Lowering) {y : Position} {q : ℕ} → Added mc ac x x₁ y q → (z : ℕ) → In z (x.main ++ x.aux) → In z (x₁.main ++ x₁.aux)
-listed_kept mc ac x x₁ {q = q} (to_main_lem e a b) z h =
+listed_kept mc ac x x₁ {q = q} (to_main e a b) z h =
     rw (a, b) (⊎_elim (λ k. in_left z (x.main ++ (q ∷ [])) x.aux (in_left z x.main (q ∷ []) k)) (λ k. in_right z (x.main ++ (q ∷ [])) x.aux k) (in_cases z x.main x.aux h))
 listed_kept mc ac x x₁ {q = q} (to_aux e a b) z h =
     rw (a, b) (⊎_elim (λ k. in_left z x.main (x.aux ++ (q ∷ [])) k) (λ k. in_right z x.main (x.aux ++ (q ∷ [])) (in_left z x.aux (q ∷ []) k)) (in_cases z x.main x.aux h))

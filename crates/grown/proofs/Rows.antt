@@ -158,8 +158,8 @@ module _ (l : Latest) (m rs main aux : List ℕ) (r : Ready l m main aux) where
   timely (Start kind) t = let (z, f) = is_unstarted l m main aux r t in start_ready l m main aux z f rs kind
   timely (Input row c) t = let (g, k) = is_begun l m main aux r t in input_ready l m main aux g k rs row c
   timely (Challenge k) t = called t (challenge_call m k) (refusals.challenge m k) (λ x b. since.challenge m b k)
-  timely (Base w) t = called t (base_call m w) (refusals.base_constant_lem m w) (λ x b. since.base m b w)
-  timely (Extension y) t = called t (extension_call m y) (refusals.extension_constant_lem m y) (λ x b. since.extension m b y)
+  timely (Base w) t = called t (base_call m w) (refusals.base_constant m w) (λ x b. since.base m b w)
+  timely (Extension y) t = called t (extension_call m y) (refusals.extension_constant m y) (λ x b. since.extension m b y)
   timely (Operation o i j) t = called t (operation_call m o i j) (refusals.operation m o i j) (λ x b. since.operation m b o i j)
   timely (Subtract i j) t = called t (subtract_call m i j) (refusals.subtract m i j) (λ x b. since.subtract m b i j)
   timely (Negate i) t = called t (negate_call m i) (refusals.negate m i) (λ x b. since.negate m b i)

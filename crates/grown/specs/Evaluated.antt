@@ -23,8 +23,8 @@ pub record Wide (m main aux challenges : List ℕ) : Type 0 where
 pub record NewWords (k l : ℕ) : Type 0 where
   pub main : List ℕ
   pub aux : List ℕ
-  pub main_count_lem : length main ≡ k
-  pub aux_count_lem : length aux ≡ 3 * l
+  pub main_count : length main ≡ k
+  pub aux_count : length aux ≡ 3 * l
   pub main_below : (w : ℕ) → In w main → w < p
   pub aux_below : (w : ℕ) → In w aux → w < p
 

@@ -49,7 +49,7 @@ AnswersOnce {R} told unnumbered call = (r s : R) → told r ≡ call → told s 
 pub record Determined : Type 0 where
   -- circuit
   pub start : (m : List ℕ) (kind : RowKind) → Once told_start (start_answer_lem.Refused 0) (start_call m kind)
-  pub is_circuit_lem : (m : List ℕ) (r s : Bool) → r ≡ not (not_circuit m) → s ≡ not (not_circuit m) → r ≡ s
+  pub is_circuit : (m : List ℕ) (r s : Bool) → r ≡ not (not_circuit m) → s ≡ not (not_circuit m) → r ≡ s
   pub read : (m : List ℕ) (i : ℕ) → AnswersOnce told_node (node-answer.Refused 0) (read_call m i)
   pub used : (m : List ℕ) → AnswersOnce told_count (number-answer.Refused 0) (used_call m)
   pub free : (m : List ℕ) → AnswersOnce told_count (number-answer.Refused 0) (free_call m)
@@ -57,23 +57,23 @@ pub record Determined : Type 0 where
   -- building
   pub input : (m : List ℕ) (q : Position) → Once told_id (id-answer.Refused 0) (input_call m q)
   pub challenge : (m : List ℕ) (k : ℕ) → Once told_id (id-answer.Refused 0) (challenge_call m k)
-  pub base_constant_lem : (m : List ℕ) (w : ℕ) → Once told_id (id-answer.Refused 0) (base_call m w)
+  pub base_constant : (m : List ℕ) (w : ℕ) → Once told_id (id-answer.Refused 0) (base_call m w)
   pub zero : (m : List ℕ) → Once told_id (id-answer.Refused 0) (zero_call m)
   pub one : (m : List ℕ) → Once told_id (id-answer.Refused 0) (one_call m)
   pub minus_one : (m : List ℕ) → Once told_id (id-answer.Refused 0) (minus_one_call m)
-  pub extension_constant_lem : (m : List ℕ) (x : Triple) → Once told_id (id-answer.Refused 0) (extension_call m x)
+  pub extension_constant : (m : List ℕ) (x : Triple) → Once told_id (id-answer.Refused 0) (extension_call m x)
   pub operation : (m : List ℕ) (o : Op) (l r : ℕ) → Once told_id (id-answer.Refused 0) (operation_call m o l r)
   pub subtract : (m : List ℕ) (a b : ℕ) → Once told_id (id-answer.Refused 0) (subtract_call m a b)
   pub negate : (m : List ℕ) (a : ℕ) → Once told_id (id-answer.Refused 0) (negate_call m a)
   pub sum : (m ids : List ℕ) → Once told_id (id-answer.Refused 0) (sum_call m ids)
   -- walking and counting
   pub walk : (m roots list stack : List ℕ) → Once paths.told_count (list-answer.Refused 0) (walk_call m roots list stack)
-  pub count_references_lem : (m roots : List ℕ) → Once paths.told_counted (counts-answer.Refused 0) (count_call m roots)
-  pub distinct_counts_lem : (m : List ℕ) (i : ℕ) (list : List ℕ) → Once paths.told_count (list-answer.Refused 0) (counts_call m i list)
+  pub count_references : (m roots : List ℕ) → Once paths.told_counted (counts-answer.Refused 0) (count_call m roots)
+  pub distinct_counts : (m : List ℕ) (i : ℕ) (list : List ℕ) → Once paths.told_count (list-answer.Refused 0) (counts_call m i list)
   -- readings
   pub is_zero : (m : List ℕ) (i : ℕ) → AnswersOnce told_test (test-answer.Refused 0) (is_zero_call m i)
   pub is_one : (m : List ℕ) (i : ℕ) → AnswersOnce told_test (test-answer.Refused 0) (is_one_call m i)
-  pub is_minus_one_lem : (m : List ℕ) (i : ℕ) → AnswersOnce told_test (test-answer.Refused 0) (is_minus_one_call m i)
+  pub is_minus_one : (m : List ℕ) (i : ℕ) → AnswersOnce told_test (test-answer.Refused 0) (is_minus_one_call m i)
   pub base-test : (m : List ℕ) (i : ℕ) → AnswersOnce told_test (test-answer.Refused 0) (base_test_call m i)
   pub degree : (m : List ℕ) (i : ℕ) → AnswersOnce told_degree (degree-answer.Refused 0) (degree_call m i)
   pub highest : (m roots : List ℕ) → AnswersOnce told_degree (degree-answer.Refused 0) (highest_call m roots)
@@ -83,6 +83,6 @@ pub record Determined : Type 0 where
   pub lower : (target main_count aux_count : ℕ) (lent : Lowering) → Once told_lowering (lower-answer.Refused 0) (lower_call target main_count aux_count lent)
   -- filling
   pub fill : (main_count aux_count : ℕ) (m mains auxs challenges main aux : List ℕ) → Once told_fill (fill-answer.Refused 0) (fill_call main_count aux_count m mains auxs challenges main aux)
-  pub fill_rows_lem : (main_count aux_count : ℕ) (m mains auxs challenges : List ℕ) (rows : ℕ) (main aux : List ℕ) → Once told_fill (fill-answer.Refused 0) (fill_rows_call main_count aux_count m mains auxs challenges rows main aux)
+  pub fill_rows : (main_count aux_count : ℕ) (m mains auxs challenges : List ℕ) (rows : ℕ) (main aux : List ℕ) → Once told_fill (fill-answer.Refused 0) (fill_rows_call main_count aux_count m mains auxs challenges rows main aux)
   -- a line of the frame language: how many bytes its answer has, all that is kept, and the places lent for the answer
   pub frame : (s : State) (line answer : List ℕ) (n k : ℕ) (x y : State) (a b : List ℕ) → framed n x a ≡ frame_call s line answer → framed k y b ≡ frame_call s line answer → (n ≡ k) × ((x ≡ y) × (a ≡ b))

@@ -19,8 +19,8 @@ use Rattle.grown.specs.Grown.{Grown}
 pub record NewValues (k l : ℕ) : Type 0 where
   pub main : List ℕ
   pub aux : List Triple
-  pub main_count_lem : length main ≡ k
-  pub aux_count_lem : length aux ≡ l
+  pub main_count : length main ≡ k
+  pub aux_count : length aux ≡ l
   pub base : (w : ℕ) → In w main → w < p
   pub extension : (x : Triple) → In x aux → Canonical x
 
@@ -45,7 +45,7 @@ pub record Difference (m : List ℕ) (y : Position) (q : ℕ) : Type 0 where
   pub product : ℕ
   pub minus : ℕ
   pub chosen : ℕ
-  pub is_input_lem : expression_at m input ≡ Input y
+  pub is_input : expression_at m input ≡ Input y
   pub is_minus : expression_at m minus ≡ Base minus_one
   pub is_product : (expression_at m product ≡ Operation Multiply minus chosen) ⊎ (expression_at m product ≡ Operation Multiply chosen minus)
   pub is_sum : (expression_at m q ≡ Operation Add input product) ⊎ (expression_at m q ≡ Operation Add product input)
@@ -72,8 +72,8 @@ pub record Promise (target main_count aux_count : ℕ) (m roots : List ℕ) (aft
   pub no_new : too_high target m roots ≡ false → (after.main ≡ []) × (after.aux ≡ [])
   pub fewer : too_high target m roots ≡ true → length after.main + length after.aux < M m roots
   -- new columns are numbered upward from the counts: constraint k of a list is (the input at the column count + k) - (a node)
-  pub main_columns_lem : (k : ℕ) → k < length after.main → Difference after.circuit (Main (main_count + k)) (get_or after.main k 0)
-  pub aux_columns_lem : (k : ℕ) → k < length after.aux → Difference after.circuit (Aux (aux_count + k)) (get_or after.aux k 0)
+  pub main_columns : (k : ℕ) → k < length after.main → Difference after.circuit (Main (main_count + k)) (get_or after.main k 0)
+  pub aux_columns : (k : ℕ) → k < length after.aux → Difference after.circuit (Aux (aux_count + k)) (get_or after.aux k 0)
   -- no used node of the original read any of them in the current row
   pub main_unread : (c : ℕ) → main_count ≤ c → c < main_count + length after.main → (i : ℕ) → i < used m → expression_at m i ≢ Input (Main c)
   pub aux_unread : (c : ℕ) → aux_count ≤ c → c < aux_count + length after.aux → (i : ℕ) → i < used m → expression_at m i ≢ Input (Aux c)

@@ -78,7 +78,7 @@ module _ (mc ac s : ℕ) (x : Lowering) where
 
     lists_of : (b : Bool) → k.main ≡ b → ((substituted mc ac x s).main ≡ x.main ++ (if b then k.id ∷ [] else [])) × ((substituted mc ac x s).aux ≡ x.aux ++ (if b then [] else k.id ∷ []))
     lists_of b e =
-        let q : is_base (tree x.circuit s) ≡ b = sym rep.to_main_lem ∙ e in
+        let q : is_base (tree x.circuit s) ≡ b = sym rep.to_main ∙ e in
         (main_list ∙ rw (q, ← rep.id), aux_list ∙ rw (q, ← rep.id))
 
 module _ (T mc ac : ℕ) (words : Lowering) (p : Progress) (ready : Ready T mc ac words p.main p.aux) (n : Next) (picked : Picked T words.circuit words.roots n) where
@@ -108,7 +108,7 @@ module _ (T mc ac : ℕ) (words : Lowering) (p : Progress) (ready : Ready T mc a
 
     module _ (m' roots' : List ℕ) (k : Constraint) (rep : Replaced words.circuit s (mc + p.main) (ac + p.aux) words.roots m' roots' k) where
       rep_of : (lent x : Lowering) → Holds lent x words p.main p.aux → Replaced x.circuit s (mc + length x.main) (ac + length x.aux) x.roots m' roots' k
-      rep_of lent x h = rw (← h.circuit, ← h.roots, ← h.main_count_lem, ← h.aux_count_lem) rep
+      rep_of lent x h = rw (← h.circuit, ← h.roots, ← h.main_count, ← h.aux_count) rep
 
       module _ (main' aux' : List ℕ) (r : Progress) (added : Added k p words.main words.aux main' aux' r) where
         abbrev after : Lowering
@@ -118,15 +118,15 @@ module _ (T mc ac : ℕ) (words : Lowering) (p : Progress) (ready : Ready T mc a
         on_either b e lent x h =
             let q = rep_of lent x h in
             let (mains, auxs) = lists_of mc ac s x m' roots' k q b e in
-            let (ml, mn) = if-more b x.main lent.main words.main p.main k.id h.main h.main_count_lem ready.main_place in
-            let (al, an) = if-not-more b x.aux lent.aux words.aux p.aux k.id h.aux h.aux_count_lem ready.aux_place in
+            let (ml, mn) = if-more b x.main lent.main words.main p.main k.id h.main h.main_count ready.main_place in
+            let (al, an) = if-not-more b x.aux lent.aux words.aux p.aux k.id h.aux h.aux_count ready.aux_place in
             record {
               circuit = circuit_is mc ac s x m' roots' k q;
               roots = roots_are mc ac s x m' roots' k q;
               main = rw (added.main_list, e, mains) ml;
               aux = rw (added.aux_list, e, auxs) al;
-              main_count_lem = rw (added.main_count_lem, e, mains) mn;
-              aux_count_lem = rw (added.aux_count_lem, e, auxs) an;
+              main_count = rw (added.main_count, e, mains) mn;
+              aux_count = rw (added.aux_count, e, auxs) an;
             }
 
         pub goes_on : Advanced T mc ac words after p r

@@ -20,7 +20,7 @@ use Rattle.lower.specs.Survey.{Choosable}
 use Rattle.lowering.proofs.Count.{unf_some}
 use Rattle.lowering.proofs.Words.{look, look_lt}
 use Rattle.lowering.proofs.Proper.{Proper, circuit_of}
-use Rattle.lowering.proofs.OneMore.{State, Added, to_main_lem, to_aux, OneMore, one_more, state_after, length_more}
+use Rattle.lowering.proofs.OneMore.{State, Added, to_main, to_aux, OneMore, one_more, state_after, length_more}
 use Rattle.lowering.proofs.Loops.{loop_ran}
 use Rattle.lower.proofs.Falls.{degree_after_lem, occurrences_after}
 
@@ -29,8 +29,8 @@ pub record Bounded (T mc ac : ℕ) (m₀ roots₀ : List ℕ) : Type 0 where
   pub two : 2 ≤ T
   pub nodes : used (lowered T mc ac m₀ roots₀).circuit ≤ limit m₀
   pub fewer : length (lowered T mc ac m₀ roots₀).main + length (lowered T mc ac m₀ roots₀).aux < M m₀ roots₀
-  pub main_columns_lem : mc + M m₀ roots₀ ≤ 65536
-  pub aux_columns_lem : ac + M m₀ roots₀ ≤ 65536
+  pub main_columns : mc + M m₀ roots₀ ≤ 65536
+  pub aux_columns : ac + M m₀ roots₀ ≤ 65536
 
 -- x has come so far, and k levels are left
 pub record Going (T mc ac : ℕ) (m₀ roots₀ : List ℕ) (x : Lowering) (k : ℕ) : Type 0 where
@@ -116,8 +116,8 @@ module _ (T mc ac : ℕ) (m₀ roots₀ : List ℕ) (whole : Bounded T mc ac m�
     column_fits = go one.added
       where
         go : Added mc ac x next one.y one.q → column one.y ≤ 65535
-        go (to_main_lem e a b) = let s = g.steps in let c = whole.main_columns_lem in rw e (omega arith)
-        go (to_aux e a b) = let s = g.steps in let c = whole.aux_columns_lem in rw e (omega arith)
+        go (to_main e a b) = let s = g.steps in let c = whole.main_columns in rw e (omega arith)
+        go (to_aux e a b) = let s = g.steps in let c = whole.aux_columns in rw e (omega arith)
 
     -- one more
     pub going_next : Going T mc ac m₀ roots₀ next k
@@ -139,5 +139,5 @@ module _ (T mc ac : ℕ) (m₀ roots₀ : List ℕ) (whole : Bounded T mc ac m�
         lies n p h = inside x.circuit n p (rw (same_limit x.circuit m₀ g.same) h)
 
         more : Added mc ac x next one.y one.q → length next.main + length next.aux + k ≡ M m₀ roots₀
-        more (to_main_lem e a b) = omega (arith, length_more x.main next.main one.q a, ap length b, g.steps)
+        more (to_main e a b) = omega (arith, length_more x.main next.main one.q a, ap length b, g.steps)
         more (to_aux e a b) = omega (arith, ap length a, length_more x.aux next.aux one.q b, g.steps)

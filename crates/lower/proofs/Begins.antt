@@ -28,7 +28,7 @@ module _ (T mc ac : ℕ) (m roots : List ℕ) (first : First T m roots) (then : 
   bounded =
       let d = fits_some T mc ac m roots first.target first_state high then.room then.columns (proper_of m first.circuit) in
       let (cm, ca) = columns_room mc ac m roots then.columns in
-      record { two = first.target; nodes = d.nodes; fewer = (demand_some T mc ac m roots first.target first_state high).fewer high; main_columns_lem = cm; aux_columns_lem = ca }
+      record { two = first.target; nodes = d.nodes; fewer = (demand_some T mc ac m roots first.target first_state high).fewer high; main_columns = cm; aux_columns = ca }
 
   pub going_start : over_degree m roots ≡ false → over_occurrences T m roots ≡ false → Going T mc ac m roots (start m roots) (M m roots)
   unfolding lowered

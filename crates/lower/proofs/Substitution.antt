@@ -60,5 +60,5 @@ module _ (m : List ℕ) (s a b : ℕ) (p : Substitutable m s a b) (main : Bool) 
             circuit = d.circuit ∙ rw (is_turned, new_id);
             all_roots = ro ∙ rw new_id;
             id = ri ∙ (d.id ∙ rw (is_turned, new_id));
-            to_main_lem = rm ∙ pm;
+            to_main = rm ∙ pm;
           }

@@ -51,10 +51,10 @@ module _ (T mc ac : ℕ) (m₀ roots₀ : List ℕ) (whole : Bounded T mc ac m�
       go : (s : ℕ) (u : Shape) → Choice T (look x.circuit) x.roots s u → (b : Bool) → is_base (tree x.circuit s) ≡ b → used (substituted mc ac x s).circuit ≤ limit m₀ → Substitutable x.circuit s (mc + length x.main) (ac + length x.aux)
       go s u ch true e fits =
           at_column s u ch true e (Main (mc + length x.main)) refl (λ i h. omega (arith, g.state.columns i (Main (mc + length x.main)) h))
-          (λ h. ap base_s (sym (shape_is x.circuit u s ch.tree)) ∙ sym (base_shape (tree x.circuit s)) ∙ e) (omega (arith, g.steps, whole.main_columns_lem)) refl fits
+          (λ h. ap base_s (sym (shape_is x.circuit u s ch.tree)) ∙ sym (base_shape (tree x.circuit s)) ∙ e) (omega (arith, g.steps, whole.main_columns)) refl fits
       go s u ch false e fits =
           at_column s u ch false e (Aux (ac + length x.aux)) refl (λ i h. omega (arith, g.state.columns i (Aux (ac + length x.aux)) h))
-          (λ h. absurd (let z : ◌≡◌ {A = ℕ} 0 1 = cc in omega arith)) (omega (arith, g.steps, whole.aux_columns_lem)) refl fits
+          (λ h. absurd (let z : ◌≡◌ {A = ℕ} 0 1 = cc in omega arith)) (omega (arith, g.steps, whole.aux_columns)) refl fits
 
 -- the lent words at a turn: those of a lowering on its way; once there is no more, no root's degree exceeds the target
 pub record Turning (T mc ac : ℕ) (lent words : Lowering) (p : Progress) : Type 0 where
@@ -82,7 +82,7 @@ module _ (T mc ac : ℕ) (lent : Lowering) (begun : Begun T mc ac lent) where
       record {
         x = start lent.circuit lent.roots;
         k = M lent.circuit lent.roots;
-        holds = record { circuit = refl; roots = refl; main = sym (written_none lent.main); aux = sym (written_none lent.aux); main_count_lem = refl; aux_count_lem = refl };
+        holds = record { circuit = refl; roots = refl; main = sym (written_none lent.main); aux = sym (written_none lent.aux); main_count = refl; aux_count = refl };
         going = begun_going T mc ac lent begun;
         ended = λ z. clash true refl z;
       }
@@ -93,11 +93,11 @@ module _ (T mc ac : ℕ) (lent : Lowering) (begun : Begun T mc ac lent) where
       let (lm, la) = begun_room T mc ac lent begun in
       record {
         choosable = rw (h.circuit, h.roots) (going_choosable T mc ac lent.circuit lent.roots whole x (suc k) g);
-        can = rw (h.circuit, h.roots, h.main_count_lem, h.aux_count_lem) (chosen_fits T mc ac lent.circuit lent.roots whole x k g);
-        main_place = rw (h.main, h.main_count_lem) (written_free x.main lent.main (omega (arith, g.steps)));
-        aux_place = rw (h.aux, h.aux_count_lem) (written_free x.aux lent.aux (omega (arith, g.steps)));
-        main_column_lem = omega (arith, g.steps, whole.main_columns_lem, h.main_count_lem);
-        aux_column_lem = omega (arith, g.steps, whole.aux_columns_lem, h.aux_count_lem);
+        can = rw (h.circuit, h.roots, h.main_count, h.aux_count) (chosen_fits T mc ac lent.circuit lent.roots whole x k g);
+        main_place = rw (h.main, h.main_count) (written_free x.main lent.main (omega (arith, g.steps)));
+        aux_place = rw (h.aux, h.aux_count) (written_free x.aux lent.aux (omega (arith, g.steps)));
+        main_column = omega (arith, g.steps, whole.main_columns, h.main_count);
+        aux_column = omega (arith, g.steps, whole.aux_columns, h.aux_count);
       }
 
   module _ (words : Lowering) (p : Progress) (t : Turning T mc ac lent words p) where
@@ -116,8 +116,8 @@ module _ (T mc ac : ℕ) (lent : Lowering) (begun : Begun T mc ac lent) where
             go : (b : Bool) → too_high T x.circuit x.roots ≡ b → Holds lent (if b then substituted mc ac x (chosen T mc ac x) else x) after r.main r.aux → r.more ≡ b → Turning T mc ac lent after r × (left lent r < left lent p)
             go true high h' e =
                 let g' = going_next T mc ac lent.circuit lent.roots whole x k g high in
-                (record { x = substituted mc ac x (chosen T mc ac x); k = k; holds = h'; going = g'; ended = λ z. clash r.more e z }, rw (e, first) (omega (arith, g.steps, g'.steps, h.main_count_lem, h.aux_count_lem, h'.main_count_lem, h'.aux_count_lem)))
-            go false low h' e = (record { x = x; k = suc k; holds = h'; going = g; ended = λ z. low }, rw (e, first) (omega (arith, h.main_count_lem, h.aux_count_lem, h'.main_count_lem, h'.aux_count_lem)))
+                (record { x = substituted mc ac x (chosen T mc ac x); k = k; holds = h'; going = g'; ended = λ z. clash r.more e z }, rw (e, first) (omega (arith, g.steps, g'.steps, h.main_count, h.aux_count, h'.main_count, h'.aux_count)))
+            go false low h' e = (record { x = x; k = suc k; holds = h'; going = g; ended = λ z. low }, rw (e, first) (omega (arith, h.main_count, h.aux_count, h'.main_count, h'.aux_count)))
 
     -- at the end
     pub turning_end : p.more ≡ false → accepted (p.main, p.aux) words ≡ finished T mc ac lent
@@ -125,4 +125,4 @@ module _ (T mc ac : ℕ) (lent : Lowering) (begun : Begun T mc ac lent) where
     turning_end e =
         let h = t.holds in
         let q = going_done T mc ac lent.circuit lent.roots whole t.x t.k t.going (t.ended e) in
-        rw (← q) (λ i. record { number = 0; values = (h.main_count_lem i, h.aux_count_lem i); lent = record { circuit = h.circuit i; roots = h.roots i; main = h.main i; aux = h.aux i } })
+        rw (← q) (λ i. record { number = 0; values = (h.main_count i, h.aux_count i); lent = record { circuit = h.circuit i; roots = h.roots i; main = h.main i; aux = h.aux i } })

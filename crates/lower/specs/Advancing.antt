@@ -16,15 +16,15 @@ pub record Holds (lent x words : Lowering) (mains auxs : ℕ) : Type 0 where
   pub roots : words.roots ≡ x.roots
   pub main : words.main ≡ written x.main lent.main
   pub aux : words.aux ≡ written x.aux lent.aux
-  pub main_count_lem : mains ≡ length x.main
-  pub aux_count_lem : auxs ≡ length x.aux
+  pub main_count : mains ≡ length x.main
+  pub aux_count : auxs ≡ length x.aux
 
 -- a constraint more, in one of the two lists
 pub record Added (c : Constraint) (p : Progress) (main aux main' aux' : List ℕ) (r : Progress) : Type 0 where
   pub main_list : main' ≡ (if c.main then set main p.main c.id else main)
   pub aux_list : aux' ≡ (if c.main then aux else set aux p.aux c.id)
-  pub main_count_lem : r.main ≡ (if c.main then p.main + 1 else p.main)
-  pub aux_count_lem : r.aux ≡ (if c.main then p.aux else p.aux + 1)
+  pub main_count : r.main ≡ (if c.main then p.main + 1 else p.main)
+  pub aux_count : r.aux ≡ (if c.main then p.aux else p.aux + 1)
   pub more : r.more ≡ true
 
 module _ (target main_count aux_count : ℕ) where
@@ -42,8 +42,8 @@ module _ (target main_count aux_count : ℕ) where
     pub can : too_high target words.circuit words.roots ≡ true → Substitutable words.circuit (chosen words) (main_count + mains) (aux_count + auxs)
     pub main_place : mains < length words.main
     pub aux_place : auxs < length words.aux
-    pub main_column_lem : main_count + mains ≤ 65536
-    pub aux_column_lem : aux_count + auxs ≤ 65536
+    pub main_column : main_count + mains ≤ 65536
+    pub aux_column : aux_count + auxs ≤ 65536
 
   -- of whatever lowering the words are, they are the one after it
   pub record Advanced (words after : Lowering) (p r : Progress) : Type 0 where

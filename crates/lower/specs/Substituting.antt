@@ -62,4 +62,4 @@ module _ (m : List ℕ) (s main_column aux_column : ℕ) where
     pub circuit : m' ≡ difference.circuit
     pub all_roots : roots' ≡ map (renamed s new_input.id) roots
     pub id : r.id ≡ difference.id
-    pub to_main_lem : r.main ≡ is_base (tree m s)
+    pub to_main : r.main ≡ is_base (tree m s)

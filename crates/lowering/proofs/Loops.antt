@@ -21,7 +21,7 @@ use Rattle.lowering.proofs.Words.{look}
 use Rattle.lowering.proofs.Constraints.{HasMinus}
 use Rattle.lowering.proofs.Proper.{Proper}
 use Rattle.lowering.proofs.Chooses.{too_high_lem}
-use Rattle.lowering.proofs.OneMore.{Added, OneMore, State, length_more, one_more, state_after, to_aux, to_main_lem}
+use Rattle.lowering.proofs.OneMore.{Added, OneMore, State, length_more, one_more, state_after, to_aux, to_main}
 
 -- a column between the counts before and after
 abbrev pub New : ℕ → ℕ → Lowering → Lowering → Position → Type 0
@@ -142,11 +142,11 @@ ran_more T mc ac x x₁ x' state high one r = go one.added
     stands = constraint_standing one.st.step r.low
 
     in_bounds : mc + length x'.main ≤ 65536 → ac + length x'.aux ≤ 65536 → Added mc ac x x₁ one.y one.q → column one.y ≤ 65535
-    in_bounds h k (to_main_lem e a b) = rw e (omega (arith, r.more_main, length_more x.main x₁.main one.q a))
+    in_bounds h k (to_main e a b) = rw e (omega (arith, r.more_main, length_more x.main x₁.main one.q a))
     in_bounds h k (to_aux e a b) = rw e (omega (arith, r.more_aux, length_more x.aux x₁.aux one.q b))
 
     go : Added mc ac x x₁ one.y one.q → Ran T mc ac x x'
-    go (to_main_lem e a b) =
+    go (to_main e a b) =
         let la : length x₁.main ≡ suc (length x.main) = length_more x.main x₁.main one.q a in
         let lb : length x₁.aux ≡ length x.aux = ap length b in
         record {
@@ -236,7 +236,7 @@ ended_more T mc ac k x x₁ x' one (inl h) = inl h
 ended_more T mc ac k x x₁ x' one (inr h) = inr (go one.added)
   where
     go : Added mc ac x x₁ one.y one.q → length x'.main + length x'.aux ≡ length x.main + length x.aux + suc k
-    go (to_main_lem e a b) = omega (arith, length_more x.main x₁.main one.q a, ap length b)
+    go (to_main e a b) = omega (arith, length_more x.main x₁.main one.q a, ap length b)
     go (to_aux e a b) = omega (arith, ap length a, length_more x.aux x₁.aux one.q b)
 
 -- the loop is such a run; at its end no root is too high, or it has spent its levels

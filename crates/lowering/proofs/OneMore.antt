@@ -45,7 +45,7 @@ pub record State (mc ac : ℕ) (x : Lowering) : Type 0 where
 
 -- the new column and where its constraint goes
 pub data Added (mc ac : ℕ) (x x₁ : Lowering) (y : Position) (q : ℕ) : Type 0 where
-  to_main_lem : y ≡ Main (mc + length x.main) → x₁.main ≡ x.main ++ (q ∷ []) → x₁.aux ≡ x.aux → Added mc ac x x₁ y q
+  to_main : y ≡ Main (mc + length x.main) → x₁.main ≡ x.main ++ (q ∷ []) → x₁.aux ≡ x.aux → Added mc ac x x₁ y q
   to_aux : y ≡ Aux (ac + length x.aux) → x₁.main ≡ x.main → x₁.aux ≡ x.aux ++ (q ∷ []) → Added mc ac x x₁ y q
 
 pub record OneMore (T mc ac : ℕ) (x x₁ : Lowering) : Type 0 where
@@ -105,7 +105,7 @@ module _ (T mc ac : ℕ) (two : 2 ≤ T) where
             to = renamed_all s (used m) x.roots;
             sound = three_sound m state.sound s u ch.low ch.tree y fresh kind;
             inputs = inputs_after m state.sound s u ch.low ch.tree y fresh kind;
-            added = to_main_lem refl refl (append_none x.aux);
+            added = to_main refl refl (append_none x.aux);
             four_more = four_more m state.sound s u ch.low ch.tree y fresh kind;
             three_more = three_more m state.sound s u ch.low ch.tree y fresh kind;
             has_minus = has_minus m state.sound s u ch.low ch.tree y fresh kind;
@@ -161,9 +161,9 @@ state_after T mc ac x x₁ state one =
     }
   where
     go : Added mc ac x x₁ one.y one.q → (p : Position) {A : Type 0} → A ⊎ (p ≡ one.y) → (A → Taken (mc + length x.main) (ac + length x.aux) p) → Taken (mc + length x₁.main) (ac + length x₁.aux) p
-    go (to_main_lem e a b) p (inl k) f =
+    go (to_main e a b) p (inl k) f =
         taken_more (mc + length x.main) (ac + length x.aux) (mc + length x₁.main) (ac + length x₁.aux) (omega (arith, length_more x.main x₁.main one.q a)) (omega (arith, ap length b)) p (f k)
-    go (to_main_lem e a b) p (inr k) f = rw (k ∙ e) (omega (arith, length_more x.main x₁.main one.q a))
+    go (to_main e a b) p (inr k) f = rw (k ∙ e) (omega (arith, length_more x.main x₁.main one.q a))
     go (to_aux e a b) p (inl k) f =
         taken_more (mc + length x.main) (ac + length x.aux) (mc + length x₁.main) (ac + length x₁.aux) (omega (arith, ap length a)) (omega (arith, length_more x.aux x₁.aux one.q b)) p (f k)
     go (to_aux e a b) p (inr k) f = rw (k ∙ e) (omega (arith, length_more x.aux x₁.aux one.q b))

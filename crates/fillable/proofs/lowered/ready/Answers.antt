@@ -19,7 +19,7 @@ offset_bounds-main_reach-node c = let v = c.requires.0 in
 
 pub bounds-main_reach-node : goal.bounds-main_reach-node
 bounds-main_reach-node c = let v = c.requires.0 in
-    let r = v.main_room_lem in
+    let r = v.main_room in
     let b = expression_below v 0 0 _ _ c.requires.1 _ (sym c.expression_of.ensures ∙ ap form_of c.in-Of.is) in
     omega arith
 
@@ -34,7 +34,7 @@ offset_bounds-aux_reach-node c = let v = c.requires.0 in
 
 pub bounds-aux_reach-node : goal.bounds-aux_reach-node
 bounds-aux_reach-node c = let v = c.requires.0 in
-    let r = v.aux_room_lem in
+    let r = v.aux_room in
     let b = expression_below v 0 0 _ _ c.requires.1 _ (sym c.expression_of.ensures ∙ ap form_of c.in-Of.is) in
     omega arith
 
