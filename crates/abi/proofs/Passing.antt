@@ -1,6 +1,7 @@
 -- A call that passes on an outcome: what it answered holds of whatever that outcome is equal to. Assumes nothing.
 use mathlib.Core.Path.{◌≡◌, refl, subst, ap, sym, ◌∙◌}
 use mathlib.Core.Bool.{true, false}
+use Rattle.std.specs.Prelude.{Result, Ok, Err}
 use mathlib.Core.List.{List, [], ◌∷◌, ◌++◌}
 use Prim.Native.Nat.{ℕ, ◌<◌, ◌≤◌}
 use lib.ListN.{set}
@@ -12,18 +13,26 @@ use Rattle.circuit.specs.declared.place.FourWords.{FourWords}
 use Rattle.layout.specs.Words.{encode}
 use Rattle.layout.specs.NotCircuit.{not_circuit}
 use Rattle.layout.specs.Outcomes.{Outcome}
-use Rattle.layout.specs.Answers.{refused}
+use Rattle.layout.specs.declared.refusal.Refusal.{Refusal}
+use Rattle.layout.specs.Answers.{refused, told, told_count, answer_number}
 use Rattle.layout.specs.Calls.{start_call}
 use Rattle.layout.proofs.Refusals.{refusal_here, refusal_next, outcome_refused}
 use Rattle.building.specs.Calls.{input_call}
-use Rattle.abi.specs.Answers.{Answered, Done, bit, as_node}
+use Rattle.abi.specs.Answers.{Answered, Done, bit, as_number, as_node}
 use Rattle.abi.specs.Numbers.{start_by_number, positioned, input_by_number}
 
 pub handed_on : {A L : Type 0} {words : A → List ℕ} {o o' : Outcome A L} {r : ℕ} {before after : List ℕ} {lent : L} → o ≡ o' → Answered words o r before after lent → Answered words o' r before after lent
 handed_on {A} {L} {words} {o} {o'} {r} {before} {after} {lent} e h = subst (λ (x : Outcome A L). Answered words x r before after lent) e h
 
-pub done_on : {L : Type 0} {o o' : Outcome (Unit {0}) L} {r : ℕ} {lent : L} → o ≡ o' → Done o r lent → Done o' r lent
-done_on {L} {o} {o'} {r} {lent} e h = subst (λ (x : Outcome (Unit {0}) L). Done x r lent) e h
+-- a number answered, whatever else was lent
+pub number_on : {L : Type 0} {o : Outcome ℕ L} {r : ℕ} {before after : List ℕ} {lent : L} (answer : Result ℕ Refusal) → told 0 answer lent ≡ o → Answered as_number (told_count answer) r before after tt → Answered as_number o r before after lent
+number_on {lent} (Ok n) e h = handed_on e (record { number = h.number; out = h.out; kept = refl })
+number_on {lent} (Err k) e h = handed_on e (record { number = h.number; out = h.out; kept = refl })
+
+-- the number of an answer without a value
+pub done_on : {L : Type 0} {o : Outcome (Unit {0}) L} {r : ℕ} {lent : L} (answer : Result (Unit {0}) Refusal) → told tt answer lent ≡ o → r ≡ answer_number answer → Done o r lent
+done_on {L} {o} {r} {lent} (Ok n) e h = subst (λ (x : Outcome (Unit {0}) L). Done x r lent) e (record { number = h; kept = refl })
+done_on {L} {o} {r} {lent} (Err k) e h = subst (λ (x : Outcome (Unit {0}) L). Done x r lent) e (record { number = h; kept = refl })
 
 -- rows and row kinds by their numbers
 

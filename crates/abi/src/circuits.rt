@@ -2,25 +2,14 @@
 ghost use Rattle.std.specs.Prelude.{◌≡◌, [], ◌∷◌};
 ghost use Rattle.layout.specs.NotCircuit.{not_circuit};
 ghost use Rattle.layout.specs.Outcomes.{refusal};
-ghost use Rattle.layout.specs.Calls.{start_call, read_call, used_call, free_call};
+ghost use Rattle.layout.specs.Calls.{read_call, used_call, free_call};
 ghost use Rattle.abi.specs.Answers.{Answered, Done, as_number, as_node};
 ghost use Rattle.abi.specs.Numbers.{start_by_number};
 
-use crate::answers::{counted, node};
+use crate::answers::{node, number};
 use circuit::calls;
-use layout::answer::Started;
 use layout::node::RowKind;
-use layout::refusal::NOT_CIRCUIT;
-
-fn start_as(m: &mut [u64], kind: RowKind) -> u64
-    ensures { Done (start_call m.old kind) result m.new }
-{
-    let answer = calls::start(m, kind);
-    match answer {
-        Started::Fresh => 0,
-        Started::Refused(k) => k,
-    }
-}
+use layout::refusal::{self, Refusal};
 
 // Starts a circuit: kind 1 single-row, 2 dual-row.
 #[unsafe(no_mangle)]
@@ -28,12 +17,12 @@ pub extern "C" fn atz_start(m: &mut [u64], kind: u64) -> u64
     ensures { Done (start_by_number m.old kind) result m.new }
 {
     if kind == 1 {
-        return start_as(m, RowKind::Single);
+        return refusal::number(calls::start(m, RowKind::Single));
     }
     if kind == 2 {
-        return start_as(m, RowKind::Dual);
+        return refusal::number(calls::start(m, RowKind::Dual));
     }
-    NOT_CIRCUIT
+    u64::from(Refusal::NotCircuit)
 }
 
 // Whether the words are a circuit: 0, or NOT_CIRCUIT.
@@ -42,7 +31,7 @@ pub extern "C" fn atz_is_circuit(m: &[u64]) -> u64
     ensures { result ≡ refusal ((1, not_circuit m.now) ∷ []) }
 {
     if !calls::is_circuit(m) {
-        return NOT_CIRCUIT;
+        return u64::from(Refusal::NotCircuit);
     }
     0
 }
@@ -60,7 +49,7 @@ pub extern "C" fn atz_read(m: &[u64], id: u64, out: &mut [u64]) -> u64
 pub extern "C" fn atz_used(m: &[u64], out: &mut [u64]) -> u64
     ensures { Answered as_number (used_call m.now) result out.old out.new tt }
 {
-    counted(out, calls::used(m))
+    number(out, calls::used(m))
 }
 
 // How many more there is room for.
@@ -68,5 +57,5 @@ pub extern "C" fn atz_used(m: &[u64], out: &mut [u64]) -> u64
 pub extern "C" fn atz_free(m: &[u64], out: &mut [u64]) -> u64
     ensures { Answered as_number (free_call m.now) result out.old out.new tt }
 {
-    counted(out, calls::free(m))
+    number(out, calls::free(m))
 }

@@ -3,7 +3,7 @@ ghost use Rattle.filling.specs.Calls.{fill_call, fill_rows_call};
 ghost use Rattle.abi.specs.Answers.{Done};
 
 use filler::calls;
-use filling::Filled;
+use layout::refusal;
 
 // Fills the new columns of one row; of a dual-row circuit both rows are lent, and the current one is filled.
 #[unsafe(no_mangle)]
@@ -19,11 +19,7 @@ pub extern "C" fn atz_fill(
 ) -> u64
     ensures { Done (fill_call main_count aux_count m.now mains.now auxs.now challenges.now main.old aux.old) result (main.new, aux.new) }
 {
-    let answer = calls::fill(m, mains, auxs, main_count, aux_count, main, aux, challenges);
-    match answer {
-        Filled::Done => 0,
-        Filled::Refused(k) => k,
-    }
+    refusal::number(calls::fill(m, mains, auxs, main_count, aux_count, main, aux, challenges))
 }
 
 // Fills so many rows, one after the other; of a dual-row circuit all but the last, which is only read.
@@ -41,11 +37,7 @@ pub extern "C" fn atz_fill_rows(
 ) -> u64
     ensures { Done (fill_rows_call main_count aux_count m.now mains.now auxs.now challenges.now rows main.old aux.old) result (main.new, aux.new) }
 {
-    let answer = calls::fill_rows(
+    refusal::number(calls::fill_rows(
         m, mains, auxs, main_count, aux_count, rows, main, aux, challenges,
-    );
-    match answer {
-        Filled::Done => 0,
-        Filled::Refused(k) => k,
-    }
+    ))
 }

@@ -5,12 +5,12 @@ ghost use Rattle.building.specs.Calls.{challenge_call, base_call, zero_call, one
 ghost use Rattle.abi.specs.Answers.{Answered, as_number};
 ghost use Rattle.abi.specs.Numbers.{positioned, input_by_number};
 
-use crate::answers::{give, id};
+use crate::answers::number;
 use arithmetic::Triple;
 use build_calls::calls;
 use circuit::calls::is_circuit;
 use layout::node::Position;
-use layout::refusal::{BAD_ROW, NOT_CIRCUIT};
+use layout::refusal::Refusal;
 
 fn position(row: u64, column: u64) -> Position
     ensures { result ≡ positioned row column }
@@ -33,12 +33,12 @@ pub extern "C" fn atz_input(m: &mut [u64], row: u64, column: u64, out: &mut [u64
     ensures { Answered as_number (input_by_number m.old row column) result out.old out.new m.new }
 {
     if row < 4 {
-        return id(out, calls::input(m, position(row, column)));
+        return number(out, calls::input(m, position(row, column)));
     }
     if !is_circuit(m) {
-        return give(out, NOT_CIRCUIT, 0);
+        return number(out, Err(Refusal::NotCircuit));
     }
-    give(out, BAD_ROW, 0)
+    number(out, Err(Refusal::BadRow))
 }
 
 // A challenge.
@@ -46,7 +46,7 @@ pub extern "C" fn atz_input(m: &mut [u64], row: u64, column: u64, out: &mut [u64
 pub extern "C" fn atz_challenge(m: &mut [u64], index: u64, out: &mut [u64]) -> u64
     ensures { Answered as_number (challenge_call m.old index) result out.old out.new m.new }
 {
-    id(out, calls::challenge(m, index))
+    number(out, calls::challenge(m, index))
 }
 
 // A base constant.
@@ -54,7 +54,7 @@ pub extern "C" fn atz_challenge(m: &mut [u64], index: u64, out: &mut [u64]) -> u
 pub extern "C" fn atz_base_constant(m: &mut [u64], word: u64, out: &mut [u64]) -> u64
     ensures { Answered as_number (base_call m.old word) result out.old out.new m.new }
 {
-    id(out, calls::base_constant(m, word))
+    number(out, calls::base_constant(m, word))
 }
 
 // The constants 0, 1 and -1.
@@ -62,21 +62,21 @@ pub extern "C" fn atz_base_constant(m: &mut [u64], word: u64, out: &mut [u64]) -
 pub extern "C" fn atz_zero(m: &mut [u64], out: &mut [u64]) -> u64
     ensures { Answered as_number (zero_call m.old) result out.old out.new m.new }
 {
-    id(out, calls::zero(m))
+    number(out, calls::zero(m))
 }
 
 #[unsafe(no_mangle)]
 pub extern "C" fn atz_one(m: &mut [u64], out: &mut [u64]) -> u64
     ensures { Answered as_number (one_call m.old) result out.old out.new m.new }
 {
-    id(out, calls::one(m))
+    number(out, calls::one(m))
 }
 
 #[unsafe(no_mangle)]
 pub extern "C" fn atz_minus_one(m: &mut [u64], out: &mut [u64]) -> u64
     ensures { Answered as_number (minus_one_call m.old) result out.old out.new m.new }
 {
-    id(out, calls::minus_one(m))
+    number(out, calls::minus_one(m))
 }
 
 // An extension constant.
@@ -90,7 +90,7 @@ pub extern "C" fn atz_extension_constant(
 ) -> u64
     ensures { Answered as_number (extension_call m.old (triple c0 c1 c2)) result out.old out.new m.new }
 {
-    id(
+    number(
         out,
         calls::extension_constant(
             m,

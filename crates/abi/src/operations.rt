@@ -3,7 +3,7 @@ ghost use Rattle.layout.specs.declared.node.Op.TheVariants.{Add, Multiply};
 ghost use Rattle.building.specs.Calls.{operation_call, subtract_call, negate_call, sum_call};
 ghost use Rattle.abi.specs.Answers.{Answered, as_number};
 
-use crate::answers::id;
+use crate::answers::number;
 use build_calls::calls;
 use layout::node::Op;
 
@@ -11,14 +11,14 @@ use layout::node::Op;
 pub extern "C" fn atz_add(m: &mut [u64], left: u64, right: u64, out: &mut [u64]) -> u64
     ensures { Answered as_number (operation_call m.old Add left right) result out.old out.new m.new }
 {
-    id(out, calls::operation(m, Op::Add, left, right))
+    number(out, calls::operation(m, Op::Add, left, right))
 }
 
 #[unsafe(no_mangle)]
 pub extern "C" fn atz_multiply(m: &mut [u64], left: u64, right: u64, out: &mut [u64]) -> u64
     ensures { Answered as_number (operation_call m.old Multiply left right) result out.old out.new m.new }
 {
-    id(out, calls::operation(m, Op::Multiply, left, right))
+    number(out, calls::operation(m, Op::Multiply, left, right))
 }
 
 // left - right
@@ -26,7 +26,7 @@ pub extern "C" fn atz_multiply(m: &mut [u64], left: u64, right: u64, out: &mut [
 pub extern "C" fn atz_subtract(m: &mut [u64], left: u64, right: u64, out: &mut [u64]) -> u64
     ensures { Answered as_number (subtract_call m.old left right) result out.old out.new m.new }
 {
-    id(out, calls::subtract(m, left, right))
+    number(out, calls::subtract(m, left, right))
 }
 
 // -a
@@ -34,7 +34,7 @@ pub extern "C" fn atz_subtract(m: &mut [u64], left: u64, right: u64, out: &mut [
 pub extern "C" fn atz_negate(m: &mut [u64], a: u64, out: &mut [u64]) -> u64
     ensures { Answered as_number (negate_call m.old a) result out.old out.new m.new }
 {
-    id(out, calls::negate(m, a))
+    number(out, calls::negate(m, a))
 }
 
 // From the left.
@@ -42,5 +42,5 @@ pub extern "C" fn atz_negate(m: &mut [u64], a: u64, out: &mut [u64]) -> u64
 pub extern "C" fn atz_sum(m: &mut [u64], ids: &[u64], out: &mut [u64]) -> u64
     ensures { Answered as_number (sum_call m.old ids.now) result out.old out.new m.new }
 {
-    id(out, calls::sum(m, ids))
+    number(out, calls::sum(m, ids))
 }

@@ -3,14 +3,14 @@ ghost use Rattle.classes.specs.Classes.{equal_call};
 ghost use Rattle.reading.specs.Calls.{is_zero_call, is_one_call, is_minus_one_call, degree_call, highest_call, base_test_call, evaluate_call, visible_call};
 ghost use Rattle.abi.specs.Answers.{Answered, as_number, as_bit, as_degree, as_triple};
 
-use crate::answers::{counted, degree, equality, test, value};
+use crate::answers::{degree, number, test, value};
 
 // Whether two nodes are equal by structure.
 #[unsafe(no_mangle)]
 pub extern "C" fn atz_equal(m: &[u64], i: u64, j: u64, out: &mut [u64]) -> u64
     ensures { Answered as_bit (equal_call m.now i j) result out.old out.new tt }
 {
-    equality(out, classes::calls::equal(m, i, j))
+    test(out, classes::calls::equal(m, i, j))
 }
 
 // The tests for the constants 0, 1 and -1.
@@ -79,5 +79,5 @@ pub extern "C" fn atz_evaluate(
 pub extern "C" fn atz_visible(m: &[u64], roots: &[u64], out: &mut [u64]) -> u64
     ensures { Answered as_number (visible_call m.now roots.now) result out.old out.new tt }
 {
-    counted(out, read::visible::visible(m, roots))
+    number(out, read::visible::visible(m, roots))
 }

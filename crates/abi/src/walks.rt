@@ -2,10 +2,10 @@
 ghost use Rattle.walking.specs.Calls.{walk_call, count_call, counts_call};
 ghost use Rattle.abi.specs.Answers.{Answered, Done, as_number};
 
-use crate::answers::count;
+use crate::answers::number;
+use layout::refusal;
 use paths::references;
 use paths::walk::walk;
-use walking::Counted;
 
 // The walk from each root after the other, into the list: how many ids.
 #[unsafe(no_mangle)]
@@ -18,7 +18,7 @@ pub extern "C" fn atz_walk(
 ) -> u64
     ensures { Answered as_number (walk_call m.now roots.now list.old stack.old) result out.old out.new (list.new, stack.new) }
 {
-    count(out, walk(m, roots, list, stack))
+    number(out, walk(m, roots, list, stack))
 }
 
 // Writes the reference counts of a list of roots.
@@ -26,11 +26,7 @@ pub extern "C" fn atz_walk(
 pub extern "C" fn atz_count_references(m: &mut [u64], roots: &[u64]) -> u64
     ensures { Done (count_call m.old roots.now) result m.new }
 {
-    let answer = references::count_references(m, roots);
-    match answer {
-        Counted::Written => 0,
-        Counted::Refused(k) => k,
-    }
+    refusal::number(references::count_references(m, roots))
 }
 
 // The sorted distinct counts below an id, into the list: how many.
@@ -38,5 +34,5 @@ pub extern "C" fn atz_count_references(m: &mut [u64], roots: &[u64]) -> u64
 pub extern "C" fn atz_distinct_counts(m: &[u64], id: u64, list: &mut [u64], out: &mut [u64]) -> u64
     ensures { Answered as_number (counts_call m.now id list.old) result out.old out.new list.new }
 {
-    count(out, references::distinct_counts(m, id, list))
+    number(out, references::distinct_counts(m, id, list))
 }

@@ -1,11 +1,10 @@
 -- What building makes of a circuit is that circuit with nodes made, one after the other: its used count never falls, and while there is room,
 -- no other word changes. Assumes nothing.
-use Rattle.std.specs.Prelude.{if◌then◌else◌}
+use Rattle.std.specs.Prelude.{if◌then◌else◌, Option, None, Some}
 use Prim.Native.Nat.{ℕ, ◌+◌, ◌<◌, ◌≤◌}
 use mathlib.Core.Path.{◌≡◌, refl, ◌∙◌}
 use mathlib.Core.Logic.{inl, inr, ⊎_elim}
 use mathlib.Core.Bool.{Bool, true, false}
-use mathlib.Core.Option.{Option, none, some}
 use mathlib.Core.List.{List, [], ◌∷◌}
 use native.Mathlib.Omega.{arith}
 use lib.ListN.{length}
@@ -70,38 +69,38 @@ unfolding find_or_make
 find_grows m e = go (find m e)
   where
     go : (f : Option ℕ) → Grows 1 m (or_else f m (built (made m e) (used m))).circuit
-    go none = let u = made_one m e in record { grown = more e still; few = omega arith }
-    go (some i) = grows_not 1 m
+    go None = let u = made_one m e in record { grown = more e still; few = omega arith }
+    go (Some i) = grows_not 1 m
 
 either_grows : (m : List ℕ) (o : Op) (l r : ℕ) → Grows 1 m (either_order m o l r).circuit
 unfolding either_order
 either_grows m o l r = go (find m (Operation o r l))
   where
     go : (f : Option ℕ) → Grows 1 m (or_else f m (find_or_make m (Operation o l r))).circuit
-    go none = find_grows m (Operation o l r)
-    go (some i) = grows_not 1 m
+    go None = find_grows m (Operation o l r)
+    go (Some i) = grows_not 1 m
 
 folding_grows : (m : List ℕ) (o : Op) (l r : ℕ) → Grows 1 m (folding m o l r).circuit
 unfolding folding
 folding_grows m o l r = go (constant_of (expression_at m l)) (constant_of (expression_at m r))
   where
     go : (x y : Option Triple) → Grows 1 m (folded_or x y m o l r).circuit
-    go (some x) (some y) = find_grows m (constant (apply o x y))
-    go (some x) none = either_grows m o l r
-    go none y = either_grows m o l r
+    go (Some x) (Some y) = find_grows m (constant (apply o x y))
+    go (Some x) None = either_grows m o l r
+    go None y = either_grows m o l r
 
 -- the tests of `operate`, apart from what is left after them
 pub operate_is : (m : List ℕ) (o : Op) (l r : ℕ) → operate m o l r ≡ or_else (simplified m o l r) m (folding m o l r)
 unfolding operate simplified
 operate_is m Add l r = go (is_constant 0 m r) (is_constant 0 m l)
   where
-    go : (a b : Bool) → (if a then built m l else if b then built m r else folding m Add l r) ≡ or_else (if a then some l else if b then some r else none) m (folding m Add l r)
+    go : (a b : Bool) → (if a then built m l else if b then built m r else folding m Add l r) ≡ or_else (if a then Some l else if b then Some r else None) m (folding m Add l r)
     go true b = refl
     go false true = refl
     go false false = refl
 operate_is m Multiply l r = go (is_constant 1 m r) (is_constant 1 m l) (is_constant 0 m r) (is_constant 0 m l)
   where
-    go : (a b c d : Bool) → (if a then built m l else if b then built m r else if c then built m r else if d then built m l else folding m Multiply l r) ≡ or_else (if a then some l else if b then some r else if c then some r else if d then some l else none) m (folding m Multiply l r)
+    go : (a b c d : Bool) → (if a then built m l else if b then built m r else if c then built m r else if d then built m l else folding m Multiply l r) ≡ or_else (if a then Some l else if b then Some r else if c then Some r else if d then Some l else None) m (folding m Multiply l r)
     go true b c d = refl
     go false true c d = refl
     go false false true d = refl
@@ -112,8 +111,8 @@ pub operate_grows : (m : List ℕ) (o : Op) (l r : ℕ) → Grows 1 m (operate m
 operate_grows m o l r = rw (operate_is m o l r) (go (simplified m o l r))
   where
     go : (f : Option ℕ) → Grows 1 m (or_else f m (folding m o l r)).circuit
-    go none = folding_grows m o l r
-    go (some i) = grows_not 1 m
+    go None = folding_grows m o l r
+    go (Some i) = grows_not 1 m
 
 pub negate_grows : (m : List ℕ) (a : ℕ) → Grows 2 m (negated m a).circuit
 unfolding negated

@@ -1,4 +1,5 @@
 -- A run of steps that finds no room, undone: every word as it was, and tables that fit. Assumes nothing.
+use Rattle.std.specs.Prelude.{None, Option, Some}
 use Prim.Native.Nat.{ℕ, ◌+◌, ◌*◌, ◌≤◌}
 use mathlib.Core.Path.{◌≡◌}
 use mathlib.Core.Bool.{false}
@@ -9,8 +10,6 @@ use Rattle.layout.specs.Words.{used, limit}
 use Rattle.layout.specs.NotCircuit.{not_circuit}
 use Rattle.layout.proofs.Valid.{valid_length, limit_top}
 use Rattle.layout.proofs.Lists.{clash}
-use Rattle.build.specs.declared.steps.Made.{Made}
-use Rattle.build.specs.declared.steps.Made.TheVariants.{At, Full}
 use Rattle.building.specs.Building.{Built, summed, full}
 use Rattle.build.specs.Inner.{Buildable, Summable, Stopped, Step, Stepped, Kept, Tried}
 use Rattle.build.specs.Saved.{Saved, Restorable, Restored, Classable}
@@ -37,15 +36,15 @@ classable m num t least m₂ num₂ t₂ least₂ b e x y z = record {
   leasts = rw z b.classed.leasts;
 }
 
-pub back_step : {rest : Type 0} (m : List ℕ) (b : Built) (m₂ num t least : List ℕ) → Stopped rest m b → m₂ ≡ m → Buildable m₂ num t least → Stepped m b Full m₂ num t least
+pub back_step : {rest : Type 0} (m : List ℕ) (b : Built) (m₂ num t least : List ℕ) → Stopped rest m b → m₂ ≡ m → Buildable m₂ num t least → Stepped m b None m₂ num t least
 back_step m b m₂ num t least s e h = record { told = record { over = s.over; left = record { same = e; buildable = h } } }
 
 -- where there is room for all, what is left where there is none is no matter
-never_stops : {rest rest' : Type 0} (m : List ℕ) (b : Built) (r : Made) (m₂ num t least : List ℕ) → full m b ≡ false → Step rest m b r m₂ num t least → Step rest' m b r m₂ num t least
-never_stops m b (At i) m₂ num t least f s = record { told = s.told }
-never_stops m b Full m₂ num t least f s = clash (full m b) s.told.over f
+never_stops : {rest rest' : Type 0} (m : List ℕ) (b : Built) (r : Option ℕ) (m₂ num t least : List ℕ) → full m b ≡ false → Step rest m b r m₂ num t least → Step rest' m b r m₂ num t least
+never_stops m b (Some i) m₂ num t least f s = record { told = s.told }
+never_stops m b None m₂ num t least f s = clash (full m b) s.told.over f
 
-pub sum_fits : (m num t least ids : List ℕ) (r : Made) (m₂ num₂ t₂ least₂ : List ℕ) → Summable m num t least ids → used m + length ids ≤ limit m → Tried (length ids) m (summed m ids) r m₂ num₂ t₂ least₂ → Stepped m (summed m ids) r m₂ num₂ t₂ least₂
+pub sum_fits : (m num t least ids : List ℕ) (r : Option ℕ) (m₂ num₂ t₂ least₂ : List ℕ) → Summable m num t least ids → used m + length ids ≤ limit m → Tried (length ids) m (summed m ids) r m₂ num₂ t₂ least₂ → Stepped m (summed m ids) r m₂ num₂ t₂ least₂
 unfolding summed
 sum_fits m num t least ids r m₂ num₂ t₂ least₂ s h g = never_stops m (summed m ids) r m₂ num₂ t₂ least₂ (not_full m (summed m ids) (few ids h)) g
   where

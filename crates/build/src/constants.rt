@@ -1,31 +1,23 @@
 // Constants by value: what a node's is, the operand that an operation gives where it needs no node, and the fold of two.
 ghost use Rattle.std.specs.Prelude.{◌≡◌, ◌+◌, ◌≤◌, length};
 ghost use Rattle.layout.specs.Words.{offset, constant_of, constant, apply};
-ghost use Rattle.classes.specs.Find.{placed};
-ghost use Rattle.build.specs.Inner.{valued, simplified};
+ghost use Rattle.build.specs.Inner.{simplified};
 
 use arithmetic::Triple;
 use circuit::constants::is_constant;
-use classes::find::Place;
 use field::extension;
 use layout::node::{Expression, Op};
 
-// The value of a constant, or that there is none.
-#[derive(Clone, Copy)]
-pub enum Valued {
-    Value(Triple),
-    Nothing,
-}
-
-pub(crate) fn constant_of(e: Expression) -> Valued
-    ensures { valued result ≡ constant_of e }
+// The value of a constant, if it is one.
+pub(crate) fn constant_of(e: Expression) -> Option<Triple>
+    ensures { result ≡ constant_of e }
 {
     match e {
-        Expression::Base(w) => Valued::Value(extension::lift(w)),
-        Expression::Extension(x) => Valued::Value(x),
-        Expression::Challenge(_) => Valued::Nothing,
-        Expression::Operation(_, _, _) => Valued::Nothing,
-        Expression::Input(_) => Valued::Nothing,
+        Expression::Base(w) => Some(extension::lift(w)),
+        Expression::Extension(x) => Some(x),
+        Expression::Challenge(_) => None,
+        Expression::Operation(_, _, _) => None,
+        Expression::Input(_) => None,
     }
 }
 
@@ -50,43 +42,43 @@ pub(crate) fn apply(o: Op, x: Triple, y: Triple) -> Triple
 }
 
 // Right zero gives left; left zero gives right.
-fn simplified_sum(m: &[u64], l: u64, r: u64) -> Place
+fn simplified_sum(m: &[u64], l: u64, r: u64) -> Option<u64>
     requires { (offset l + 6 ≤ length m.now) × (offset r + 6 ≤ length m.now) }
-    ensures { placed result ≡ simplified m.now Op.Add l r }
+    ensures { result ≡ simplified m.now Op.Add l r }
 {
     if is_constant(0, m, r) {
-        return Place::At(l);
+        return Some(l);
     }
     if is_constant(0, m, l) {
-        return Place::At(r);
+        return Some(r);
     }
-    Place::Nowhere
+    None
 }
 
 // Right one gives left; left one gives right; right zero gives right; left zero gives left.
-fn simplified_product(m: &[u64], l: u64, r: u64) -> Place
+fn simplified_product(m: &[u64], l: u64, r: u64) -> Option<u64>
     requires { (offset l + 6 ≤ length m.now) × (offset r + 6 ≤ length m.now) }
-    ensures { placed result ≡ simplified m.now Op.Multiply l r }
+    ensures { result ≡ simplified m.now Op.Multiply l r }
 {
     if is_constant(1, m, r) {
-        return Place::At(l);
+        return Some(l);
     }
     if is_constant(1, m, l) {
-        return Place::At(r);
+        return Some(r);
     }
     if is_constant(0, m, r) {
-        return Place::At(r);
+        return Some(r);
     }
     if is_constant(0, m, l) {
-        return Place::At(l);
+        return Some(l);
     }
-    Place::Nowhere
+    None
 }
 
 // The operand that an operation gives where it needs no node.
-pub(crate) fn simplified(m: &[u64], o: Op, l: u64, r: u64) -> Place
+pub(crate) fn simplified(m: &[u64], o: Op, l: u64, r: u64) -> Option<u64>
     requires { (offset l + 6 ≤ length m.now) × (offset r + 6 ≤ length m.now) }
-    ensures { placed result ≡ simplified m.now o l r }
+    ensures { result ≡ simplified m.now o l r }
 {
     match o {
         Op::Add => simplified_sum(m, l, r),

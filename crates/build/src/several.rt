@@ -6,14 +6,12 @@ ghost use Rattle.building.specs.Building.{negated, subtracted, summed};
 ghost use Rattle.build.specs.Inner.{Operable, Summable, Buildable, Step, Stepped, Tried};
 ghost use Rattle.build.specs.Saved.{Saved, Restorable, Restored, Classable};
 
-use crate::steps::{Made, find_or_make, operate};
+use crate::steps::{find_or_make, operate};
 use circuit::check::{limit_of, order_of};
 use circuit::place::{HEADER, PLACE};
 use classes::find::class_tables;
+use field::base::MINUS_ONE;
 use layout::node::{Expression, Op};
-
-// -1
-pub const MINUS_ONE: u64 = 18446744069414584320;
 
 // Saves the words of the free places, as far as there are words and room for them.
 fn save(m: &[u64], saved: &mut [u64])
@@ -21,14 +19,8 @@ fn save(m: &[u64], saved: &mut [u64])
     ensures { Saved m.now saved.new }
 {
     let at = HEADER + PLACE * (m[1] as usize);
-    let mut i: usize = 0;
-    while i < saved.len() {
-        if m.len() - at <= i {
-            return;
-        }
-        saved[i] = m[at + i];
-        i += 1;
-    }
+    let n = saved.len().min(m.len() - at);
+    saved[..n].copy_from_slice(&m[at..at + n]);
 }
 
 // Puts back the used count u, and what was saved of the places that were taken since.
@@ -38,11 +30,7 @@ fn restore(m: &mut [u64], saved: &[u64], u: u64)
 {
     let at = HEADER + PLACE * (u as usize);
     let n = PLACE * ((m[1] - u) as usize);
-    let mut i: usize = 0;
-    while i < n {
-        m[at + i] = saved[i];
-        i += 1;
-    }
+    m[at..at + n].copy_from_slice(&saved[..n]);
     m[1] = u;
 }
 
@@ -64,15 +52,12 @@ fn try_negate(
     table: &mut [u64],
     least: &mut [u64],
     a: u64,
-) -> Made
+) -> Option<u64>
     requires { Operable m.old numbers.old table.old least.old a a }
     ensures { Tried 1 m.old (negated m.old a) result m.new numbers.new table.new least.new }
 {
-    let minus = find_or_make(m, numbers, table, least, Expression::Base(MINUS_ONE));
-    match minus {
-        Made::At(i) => operate(m, numbers, table, least, Op::Multiply, i, a),
-        Made::Full => Made::Full,
-    }
+    let minus = find_or_make(m, numbers, table, least, Expression::Base(MINUS_ONE))?;
+    operate(m, numbers, table, least, Op::Multiply, minus, a)
 }
 
 // a + (-b), -b first. Two nodes may have been made when there is no room for the sum.
@@ -83,15 +68,12 @@ fn try_subtract(
     least: &mut [u64],
     a: u64,
     b: u64,
-) -> Made
+) -> Option<u64>
     requires { Operable m.old numbers.old table.old least.old a b }
     ensures { Tried 2 m.old (subtracted m.old a b) result m.new numbers.new table.new least.new }
 {
-    let minus = try_negate(m, numbers, table, least, b);
-    match minus {
-        Made::At(i) => operate(m, numbers, table, least, Op::Add, a, i),
-        Made::Full => Made::Full,
-    }
+    let minus = try_negate(m, numbers, table, least, b)?;
+    operate(m, numbers, table, least, Op::Add, a, minus)
 }
 
 // From the left.
@@ -101,25 +83,15 @@ fn try_sum(
     table: &mut [u64],
     least: &mut [u64],
     ids: &[u64],
-) -> Made
+) -> Option<u64>
     requires { Summable m.old numbers.old table.old least.old ids.now }
     ensures { Tried (length ids.now) m.old (summed m.old ids.now) result m.new numbers.new table.new least.new }
 {
     let mut i = ids[0];
-    let mut k: usize = 1;
-    while k < ids.len() {
-        let both = operate(m, numbers, table, least, Op::Add, i, ids[k]);
-        match both {
-            Made::At(j) => {
-                i = j;
-            }
-            Made::Full => {
-                return Made::Full;
-            }
-        }
-        k += 1;
+    for &id in &ids[1..] {
+        i = operate(m, numbers, table, least, Op::Add, i, id)?;
     }
-    Made::At(i)
+    Some(i)
 }
 
 // -a.
@@ -129,22 +101,19 @@ pub fn negate(
     table: &mut [u64],
     least: &mut [u64],
     a: u64,
-) -> Made
+) -> Option<u64>
     requires { Operable m.old numbers.old table.old least.old a a }
     ensures { Stepped m.old (negated m.old a) result m.new numbers.new table.new least.new }
 {
     let u = m[1];
     let mut saved = [0u64; PLACE];
     save(m, &mut saved);
-    let made = try_negate(m, numbers, table, least, a);
-    match made {
-        Made::At(i) => Made::At(i),
-        Made::Full => {
-            restore(m, &saved, u);
-            class_anew(m, numbers, table, least);
-            Made::Full
-        }
+    if let Some(i) = try_negate(m, numbers, table, least, a) {
+        return Some(i);
     }
+    restore(m, &saved, u);
+    class_anew(m, numbers, table, least);
+    None
 }
 
 // a - b.
@@ -155,22 +124,19 @@ pub fn subtract(
     least: &mut [u64],
     a: u64,
     b: u64,
-) -> Made
+) -> Option<u64>
     requires { Operable m.old numbers.old table.old least.old a b }
     ensures { Stepped m.old (subtracted m.old a b) result m.new numbers.new table.new least.new }
 {
     let u = m[1];
     let mut saved = [0u64; 12];
     save(m, &mut saved);
-    let made = try_subtract(m, numbers, table, least, a, b);
-    match made {
-        Made::At(i) => Made::At(i),
-        Made::Full => {
-            restore(m, &saved, u);
-            class_anew(m, numbers, table, least);
-            Made::Full
-        }
+    if let Some(i) = try_subtract(m, numbers, table, least, a, b) {
+        return Some(i);
     }
+    restore(m, &saved, u);
+    class_anew(m, numbers, table, least);
+    None
 }
 
 // A sum that may find that there is no room. What it saves is large, so the tables are made anew elsewhere.
@@ -180,21 +146,18 @@ fn sum_or_back(
     table: &mut [u64],
     least: &mut [u64],
     ids: &[u64],
-) -> Made
+) -> Option<u64>
     requires { Summable m.old numbers.old table.old least.old ids.now }
     ensures { Step (m.new ≡ m.old) m.old (summed m.old ids.now) result m.new numbers.new table.new least.new }
 {
     let u = m[1];
     let mut saved = [0u64; 24576];
     save(m, &mut saved);
-    let made = try_sum(m, numbers, table, least, ids);
-    match made {
-        Made::At(i) => Made::At(i),
-        Made::Full => {
-            restore(m, &saved, u);
-            Made::Full
-        }
+    if let Some(i) = try_sum(m, numbers, table, least, ids) {
+        return Some(i);
     }
+    restore(m, &saved, u);
+    None
 }
 
 // The sum of one id or more.
@@ -204,19 +167,16 @@ pub fn sum(
     table: &mut [u64],
     least: &mut [u64],
     ids: &[u64],
-) -> Made
+) -> Option<u64>
     requires { Summable m.old numbers.old table.old least.old ids.now }
     ensures { Stepped m.old (summed m.old ids.now) result m.new numbers.new table.new least.new }
 {
     if ids.len() <= (limit_of(m) - m[1]) as usize {
         return try_sum(m, numbers, table, least, ids);
     }
-    let made = sum_or_back(m, numbers, table, least, ids);
-    match made {
-        Made::At(i) => Made::At(i),
-        Made::Full => {
-            class_anew(m, numbers, table, least);
-            Made::Full
-        }
+    if let Some(i) = sum_or_back(m, numbers, table, least, ids) {
+        return Some(i);
     }
+    class_anew(m, numbers, table, least);
+    None
 }

@@ -1,21 +1,14 @@
 // Building in a circuit that is known to be one, with the class tables that go along with it. Each step answers document 01's id and leaves
-// document 01's circuit, with tables that fit it; or it says that there is no room, and changes nothing.
+// document 01's circuit, with tables that fit it; or none where there is no room, and then it has changed nothing.
 ghost use Rattle.layout.specs.Words.{used, made};
 ghost use Rattle.building.specs.Building.{built, find_or_make, either_order, folding, operate};
 ghost use Rattle.build.specs.Inner.{Makable, Operable, Stepped};
 
-use crate::constants::{Valued, apply, constant, constant_of, simplified};
+use crate::constants::{apply, constant, constant_of, simplified};
 use circuit::check::limit_of;
 use circuit::place::{expression_at, make};
-use classes::find::{Place, find, join};
+use classes::find::{find, join};
 use layout::node::{Expression, Op};
-
-// The id of a node that was found or made, or that there is no place for it.
-#[derive(Clone, Copy)]
-pub enum Made {
-    At(u64),
-    Full,
-}
 
 // A new node in the next place, which joins the tables.
 fn make_node(
@@ -24,18 +17,18 @@ fn make_node(
     table: &mut [u64],
     least: &mut [u64],
     e: Expression,
-) -> Made
+) -> Option<u64>
     requires { Makable m.old numbers.old table.old least.old e }
     ensures { Stepped m.old (built (made m.old e) (used m.old)) result m.new numbers.new table.new least.new }
 {
     let u = m[1];
     let needed = u + 1;
     if limit_of(m) < needed {
-        return Made::Full;
+        return None;
     }
     make(m, e);
     join(m, numbers, table, least);
-    Made::At(u)
+    Some(u)
 }
 
 // The least registered node that is equal by structure, else a new one.
@@ -45,15 +38,14 @@ pub fn find_or_make(
     table: &mut [u64],
     least: &mut [u64],
     e: Expression,
-) -> Made
+) -> Option<u64>
     requires { Makable m.old numbers.old table.old least.old e }
     ensures { Stepped m.old (find_or_make m.old e) result m.new numbers.new table.new least.new }
 {
-    let found = find(m, numbers, table, least, e);
-    match found {
-        Place::At(i) => Made::At(i),
-        Place::Nowhere => make_node(m, numbers, table, least, e),
+    if let Some(i) = find(m, numbers, table, least, e) {
+        return Some(i);
     }
+    make_node(m, numbers, table, least, e)
 }
 
 // Of an operation, (op, right, left) is looked for first.
@@ -65,15 +57,14 @@ fn either_order(
     o: Op,
     l: u64,
     r: u64,
-) -> Made
+) -> Option<u64>
     requires { Operable m.old numbers.old table.old least.old l r }
     ensures { Stepped m.old (either_order m.old o l r) result m.new numbers.new table.new least.new }
 {
-    let found = find(m, numbers, table, least, Expression::Operation(o, r, l));
-    match found {
-        Place::At(i) => Made::At(i),
-        Place::Nowhere => find_or_make(m, numbers, table, least, Expression::Operation(o, l, r)),
+    if let Some(i) = find(m, numbers, table, least, Expression::Operation(o, r, l)) {
+        return Some(i);
     }
+    find_or_make(m, numbers, table, least, Expression::Operation(o, l, r))
 }
 
 // Two constants fold to a constant leaf; their own leaves stay.
@@ -85,18 +76,18 @@ fn folding(
     o: Op,
     l: u64,
     r: u64,
-) -> Made
+) -> Option<u64>
     requires { Operable m.old numbers.old table.old least.old l r }
     ensures { Stepped m.old (folding m.old o l r) result m.new numbers.new table.new least.new }
 {
     let left = constant_of(expression_at(m, l));
     let right = constant_of(expression_at(m, r));
     match left {
-        Valued::Value(x) => match right {
-            Valued::Value(y) => find_or_make(m, numbers, table, least, constant(apply(o, x, y))),
-            Valued::Nothing => either_order(m, numbers, table, least, o, l, r),
+        Some(x) => match right {
+            Some(y) => find_or_make(m, numbers, table, least, constant(apply(o, x, y))),
+            None => either_order(m, numbers, table, least, o, l, r),
         },
-        Valued::Nothing => either_order(m, numbers, table, least, o, l, r),
+        None => either_order(m, numbers, table, least, o, l, r),
     }
 }
 
@@ -109,13 +100,12 @@ pub fn operate(
     o: Op,
     l: u64,
     r: u64,
-) -> Made
+) -> Option<u64>
     requires { Operable m.old numbers.old table.old least.old l r }
     ensures { Stepped m.old (operate m.old o l r) result m.new numbers.new table.new least.new }
 {
-    let simple = simplified(m, o, l, r);
-    match simple {
-        Place::At(i) => Made::At(i),
-        Place::Nowhere => folding(m, numbers, table, least, o, l, r),
+    if let Some(i) = simplified(m, o, l, r) {
+        return Some(i);
     }
+    folding(m, numbers, table, least, o, l, r)
 }

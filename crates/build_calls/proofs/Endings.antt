@@ -1,4 +1,5 @@
 -- How the tests of a building call decide its outcome. Assumes nothing.
+use Rattle.std.specs.Prelude.{None, Option, Some, Result}
 use Prim.Native.Nat.{ℕ, suc, ◌≤◌}
 use mathlib.Core.Path.{◌≡◌, refl, sym, ap, ◌∙◌}
 use mathlib.Core.Bool.{Bool, true, false, ◌||◌, not}
@@ -16,9 +17,7 @@ use Rattle.layout.proofs.Valid.{valid_header, header_top}
 use Rattle.layout.proofs.Refusals.{refusal_none, refusal_here, refusal_next, outcome_refused, outcome_accepted, accepts}
 use Rattle.classes.specs.Find.{Fillable}
 use Rattle.classes.specs.Numbers.{Sized}
-use Rattle.building.specs.declared.Answer.{Answer}
-use Rattle.build.specs.declared.steps.Made.{Made}
-use Rattle.build.specs.declared.steps.Made.TheVariants.{At, Full}
+use Rattle.layout.specs.declared.refusal.Refusal.{Refusal}
 use Rattle.building.specs.Building.{Built, full}
 use Rattle.building.specs.Calls.{building}
 use Rattle.build.specs.Inner.{Stepped}
@@ -43,12 +42,12 @@ module _ (m : List ℕ) (tests : List (ℕ × Bool)) (b : Built) where
   only_full h r = ap (λ (n : ℕ). numbered n b.id b.circuit 0 m) (refusal_next 1 _ _ h ∙ r)
 
 -- the inner form's answer is the last test's
-pub ends : (m : List ℕ) (b : Built) (r : Made) (a : Answer) (m' num t least : List ℕ) → a ≡ answer_of r → Stepped m b r m' num t least → told_id a m' ≡ ending m b
+pub ends : (m : List ℕ) (b : Built) (r : Option ℕ) (a : Result ℕ Refusal) (m' num t least : List ℕ) → a ≡ answer_of r → Stepped m b r m' num t least → told_id a m' ≡ ending m b
 unfolding ending
-ends m b (At i) a m' num t least e s =
+ends m b (Some i) a m' num t least e s =
     let w = s.told in
     rw (e, w.id, w.after) (sym (outcome_accepted ((6, full m b) ∷ []) b.id b.circuit 0 m (refusal_next 6 _ _ w.room ∙ refusal_none)))
-ends m b Full a m' num t least e s =
+ends m b None a m' num t least e s =
     let w = s.told in
     rw (e, w.left.same) (sym (outcome_refused ((6, full m b) ∷ []) b.id b.circuit 0 m 5 (refusal_here 6 _ _ w.over)))
 

@@ -1,10 +1,8 @@
 -- A leaf and the nodes that have its words. Assumes nothing.
-use Rattle.std.specs.Prelude.{if◌then◌else◌}
-use Prim.Native.Nat.{ℕ, ◌<◌, ◌≤◌, ◌+◌}
+use Rattle.std.specs.Prelude.{if◌then◌else◌, Some, Option, None}
+use Prim.Native.Nat.{ℕ, ◌<◌, ◌≤◌}
 use mathlib.Core.Path.{◌≡◌, refl, sym, ap, ◌∙◌}
-use mathlib.Core.Logic.{⊎_elim}
-use mathlib.Core.Bool.{Bool, true, false, ◌&&◌, not}
-use mathlib.Core.Option.{Option, none, some}
+use mathlib.Core.Bool.{Bool, true, false, ◌&&◌}
 use mathlib.Core.List.{List}
 use native.Mathlib.Omega.{arith}
 use borrow.Author.Tests.{le-ltb, lt-ltb}
@@ -12,21 +10,16 @@ use Rattle.arithmetic.specs.declared.Triple.{Triple}
 use Rattle.arithmetic.specs.Extension.{unlifts}
 use Rattle.layout.specs.declared.node.Position.TheVariants.{Main, Aux, NextMain, NextAux}
 use Rattle.layout.specs.declared.node.Op.TheVariants.{Add, Multiply}
-use Rattle.layout.specs.declared.node.Node.{Node}
 use Rattle.layout.specs.declared.node.Expression.{Expression}
 use Rattle.layout.specs.declared.node.Expression.TheVariants.{Base, Extension, Challenge, Operation, Input}
 use Rattle.layout.specs.Lists.{same_words, up_to, first}
-use Rattle.layout.specs.Words.{used, limit, node_at, expression_at, registered, encode, constant, made}
+use Rattle.layout.specs.Words.{used, limit, expression_at, registered, encode, constant, made}
 use Rattle.layout.specs.Tree.{Tree, tree_over, tree, tree_of, same}
 use Rattle.layout.proofs.Lists.{Found, first-is, first-same, clash}
-use Rattle.layout.proofs.Tests.{last_or}
 use Rattle.layout.proofs.Refusals.{refusal_none, refusal_here, refusal_next, outcome_refused, outcome_accepted}
 use Rattle.layout.proofs.Trees.{tree_fixed}
 use Rattle.layout.proofs.Valid.{valid_room}
 use Rattle.layout.specs.Answers.{accepted, refused}
-use Rattle.classes.specs.declared.find.Place.{Place}
-use Rattle.classes.specs.declared.find.Place.TheVariants.{At, Nowhere}
-use Rattle.classes.specs.Find.{placed}
 use Rattle.building.specs.Building.{find, find_or_make, full}
 use Rattle.build.proofs.Making.{made_one}
 use Rattle.build_calls.specs.Answers.{ending}
@@ -75,33 +68,9 @@ constant_leaf x = go (unlifts x)
     go true = refl
     go false = refl
 
--- node i, read
-
-module _ (m ws : List ℕ) (i : ℕ) (node : Node) (n : node ≡ node_at m i) where
-  pub loose_not : not node.registered ≡ true → false ≡ has_words m ws i
-  loose_not h = go (registered m i) (ap (λ (x : Node). not x.registered) (sym n) ∙ h)
-    where
-      go : (b : Bool) → not b ≡ true → false ≡ (b && same_words (encode (expression_at m i)) ws)
-      go true e = clash false e refl
-      go false e = refl
-
-  pub words_here : not node.registered ≡ false → (r : Bool) (vs : List ℕ) (f : Expression) → r ≡ same_words vs ws → vs ≡ encode f → f ≡ expression_at m i → r ≡ has_words m ws i
-  words_here h r vs f a b c = go (registered m i) (ap (λ (x : Node). not x.registered) (sym n) ∙ h)
-    where
-      go : (d : Bool) → not d ≡ false → r ≡ (d && same_words (encode (expression_at m i)) ws)
-      go true e = a ∙ ap (λ (us : List ℕ). same_words us ws) (b ∙ ap encode c)
-      go false e = clash true refl e
-
--- the loop over the nodes: none before the i-th has the words
-abbrev pub NoneBefore : List ℕ → List ℕ → ℕ → ℕ → Type 0
-NoneBefore m ws n i = (i ≤ n) × ((j : ℕ) → j < i → has_words m ws j ≡ false)
-
-module _ (m ws : List ℕ) (n : ℕ) where
-  pub none_start : NoneBefore m ws n 0
-  none_start = (omega arith, λ j l. absurd (omega arith))
-
-  pub none_next : (i : ℕ) → i < n → NoneBefore m ws n i → has_words m ws i ≡ false → NoneBefore m ws n (i + 1)
-  none_next i l h e = (omega arith, λ j k. ⊎_elim (λ q. ap (has_words m ws) q ∙ e) (h.1 j) (last_or j i (omega arith)))
+-- the loop over the nodes: None before the i-th has the words
+abbrev pub NoneBefore : List ℕ → List ℕ → ℕ → Type 0
+NoneBefore m ws i = (j : ℕ) → j < i → has_words m ws j ≡ false
 
 module _ (m : List ℕ) (e : Expression) (k : Leafy m e) where
   -- so the search by words is the search by structure
@@ -112,24 +81,24 @@ module _ (m : List ℕ) (e : Expression) (k : Leafy m e) where
   pub leaf_found : (ws : List ℕ) (r : Option ℕ) → ws ≡ encode e → Found (has_words m ws) (used m) r → r ≡ find m e
   leaf_found ws r w f = sym (words_find ∙ ap (λ (v : List ℕ). first (has_words m v) (up_to (used m))) (sym w) ∙ first-is (has_words m ws) (used m) r f)
 
-  -- what the loop finds: the i-th, or none
-  pub leaf_here : (ws : List ℕ) (i : ℕ) → ws ≡ encode e → i < used m → NoneBefore m ws (used m) i → has_words m ws i ≡ true → some i ≡ find m e
-  leaf_here ws i w l h p = leaf_found ws (some i) w (record { below = l; passes = p; before = h.1 })
+  -- what the loop finds: the i-th, or None
+  pub leaf_here : (ws : List ℕ) (i : ℕ) → ws ≡ encode e → i < used m → NoneBefore m ws i → has_words m ws i ≡ true → Some i ≡ find m e
+  leaf_here ws i w l h p = leaf_found ws (Some i) w (record { below = l; passes = p; before = h })
 
-  pub leaf_nowhere : (ws : List ℕ) (i : ℕ) → ws ≡ encode e → used m ≤ i → NoneBefore m ws (used m) i → none ≡ find m e
-  leaf_nowhere ws i w l h = leaf_found ws none w (λ j k. h.1 j (omega arith))
+  pub leaf_nowhere : (ws : List ℕ) (i : ℕ) → ws ≡ encode e → used m ≤ i → NoneBefore m ws i → None ≡ find m e
+  leaf_nowhere ws i w l h = leaf_found ws None w (λ j k. h j (omega arith))
 
   -- the endings of the call
 
-  module _ (f : Place) (p : placed f ≡ find m e) where
-    pub leaf_at : (i : ℕ) → f ≡ At i → accepted i m ≡ ending m (find_or_make m e)
+  module _ (f : Option ℕ) (p : f ≡ find m e) where
+    pub leaf_at : (i : ℕ) → f ≡ Some i → accepted i m ≡ ending m (find_or_make m e)
     unfolding ending find_or_make full
-    leaf_at i h = rw (sym p ∙ ap placed h) (sym (outcome_accepted _ i m 0 m (refusal_next 6 _ _ (le-ltb (limit m) (used m) (valid_room m k.circuit)) ∙ refusal_none)))
+    leaf_at i h = rw (sym p ∙ h) (sym (outcome_accepted _ i m 0 m (refusal_next 6 _ _ (le-ltb (limit m) (used m) (valid_room m k.circuit)) ∙ refusal_none)))
 
-    pub leaf_full : f ≡ Nowhere → limit m ≤ used m → refused 6 0 m ≡ ending m (find_or_make m e)
+    pub leaf_full : f ≡ None → limit m ≤ used m → refused 6 0 m ≡ ending m (find_or_make m e)
     unfolding ending find_or_make full
-    leaf_full h l = rw (sym p ∙ ap placed h) (sym (outcome_refused _ (used m) (made m e) 0 m 5 (refusal_here 6 _ _ (lt-ltb (limit m) (used (made m e)) (let u = made_one m e in omega arith)))))
+    leaf_full h l = rw (sym p ∙ h) (sym (outcome_refused _ (used m) (made m e) 0 m 5 (refusal_here 6 _ _ (lt-ltb (limit m) (used (made m e)) (let u = made_one m e in omega arith)))))
 
-    pub leaf_made : f ≡ Nowhere → used m < limit m → (m' : List ℕ) → m' ≡ made m e → accepted (used m) m' ≡ ending m (find_or_make m e)
+    pub leaf_made : f ≡ None → used m < limit m → (m' : List ℕ) → m' ≡ made m e → accepted (used m) m' ≡ ending m (find_or_make m e)
     unfolding ending find_or_make full
-    leaf_made h l m' g = rw (sym p ∙ ap placed h, g) (sym (outcome_accepted _ (used m) (made m e) 0 m (refusal_next 6 _ _ (le-ltb (limit m) (used (made m e)) (let u = made_one m e in omega arith)) ∙ refusal_none)))
+    leaf_made h l m' g = rw (sym p ∙ h, g) (sym (outcome_accepted _ (used m) (made m e) 0 m (refusal_next 6 _ _ (le-ltb (limit m) (used (made m e)) (let u = made_one m e in omega arith)) ∙ refusal_none)))

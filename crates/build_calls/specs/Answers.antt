@@ -1,22 +1,19 @@
 -- What is left of a public call of building once its tests have passed. Assumes nothing.
-use Rattle.std.specs.Prelude.{ℕ, ◌<◌, ◌≤◌, ◌≡◌, false, List, [], ◌∷◌, length}
+use Rattle.std.specs.Prelude.{ℕ, ◌<◌, ◌≤◌, ◌≡◌, false, List, [], ◌∷◌, length, Option, Result, ok_or}
 use Rattle.layout.specs.Words.{used}
 use Rattle.layout.specs.NotCircuit.{not_circuit, bad_id}
 use Rattle.circuit.specs.Rank.{Sorted}
 use Rattle.layout.specs.Outcomes.{Outcome, outcome}
-use Rattle.building.specs.declared.Answer.{Answer}
-use Rattle.building.specs.declared.Answer.TheVariants.{Id, Refused}
-use Rattle.build.specs.declared.steps.Made.{Made}
-use Rattle.build.specs.declared.steps.Made.TheVariants.{At, Full}
+use Rattle.layout.specs.declared.refusal.Refusal.{Refusal}
+use Rattle.layout.specs.declared.refusal.Refusal.TheVariants as refusal
 use Rattle.build_calls.specs.declared.calls.Request.{Request}
 use Rattle.build_calls.specs.declared.calls.Request.TheVariants.{Operation, Negate, Subtract}
 use Rattle.building.specs.Building.{Built, operate, negated, subtracted, full}
 use Rattle.build.specs.Inner.{Buildable}
 
 -- of an inner form
-abbrev pub answer_of : Made → Answer
-answer_of (At i) = Id i
-answer_of Full = Refused 6
+abbrev pub answer_of : Option ℕ → Result ℕ Refusal
+answer_of made = ok_or made refusal.Full
 
 -- FULL is the last test
 unfoldable pub ending : List ℕ → Built → Outcome ℕ (List ℕ)

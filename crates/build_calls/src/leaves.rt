@@ -2,64 +2,54 @@
 ghost use Rattle.std.specs.Prelude.{◌≡◌, ◌+◌, ◌≤◌, length};
 ghost use Rattle.layout.specs.Words.{offset};
 ghost use Rattle.classes.specs.Table.{listed};
-ghost use Rattle.classes.specs.Find.{placed};
 ghost use Rattle.building.specs.Building.{find, find_or_make};
 ghost use Rattle.building.specs.Told.{told_id};
 ghost use Rattle.build_calls.specs.Answers.{ending};
 ghost use Rattle.build_calls.specs.Leaves.{has_words, Leafy};
 
-use building::Answer;
 use circuit::check::limit_of;
 use circuit::place::{FourWords, expression_at, make, node_at, words_of};
-use classes::find::Place;
 use classes::table::same_words;
 use layout::node::Expression;
-use layout::refusal::FULL;
+use layout::refusal::Refusal;
 
 // Whether node i is registered and has these words.
 fn has_words(m: &[u64], i: u64, w: FourWords) -> bool
     requires { offset i + 6 ≤ length m.now }
     ensures { result ≡ has_words m.now (listed w) i }
 {
-    let node = node_at(m, i);
-    if !node.registered {
-        return false;
-    }
-    same_words(words_of(expression_at(m, i)), w)
+    node_at(m, i).registered && same_words(words_of(expression_at(m, i)), w)
 }
 
 // The least registered node that is equal to a leaf.
-fn find_leaf(m: &[u64], e: Expression) -> Place
+fn find_leaf(m: &[u64], e: Expression) -> Option<u64>
     requires { Leafy m.now e }
-    ensures { placed result ≡ find m.now e }
+    ensures { result ≡ find m.now e }
 {
     let w = words_of(e);
-    let n = m[1];
-    let mut i: u64 = 0;
-    while i < n {
+    for i in 0..m[1] {
         if has_words(m, i, w) {
-            return Place::At(i);
+            return Some(i);
         }
-        i += 1;
     }
-    Place::Nowhere
+    None
 }
 
 // That one, else a new node, if there is a place for it.
-pub(crate) fn leaf(m: &mut [u64], e: Expression) -> Answer
+pub(crate) fn leaf(m: &mut [u64], e: Expression) -> Result<u64, Refusal>
     requires { Leafy m.old e }
     ensures { told_id result m.new ≡ ending m.old (find_or_make m.old e) }
 {
     let found = find_leaf(m, e);
     match found {
-        Place::At(i) => Answer::Id(i),
-        Place::Nowhere => {
+        Some(i) => Ok(i),
+        None => {
             let u = m[1];
             if limit_of(m) <= u {
-                return Answer::Refused(FULL);
+                return Err(Refusal::Full);
             }
             make(m, e);
-            Answer::Id(u)
+            Ok(u)
         }
     }
 }

@@ -1,6 +1,5 @@
 -- Document 01, "Building". A step gives the circuit after it and the id; whether it has room is FULL's matter. Assumes nothing.
-use Rattle.std.specs.Prelude.{ℕ, Bool, ◌&&◌, List, [], ◌∷◌, ltb, if◌then◌else◌}
-use Rattle.std.proofs.Math.Option.{Option, none, some}
+use Rattle.std.specs.Prelude.{ℕ, Bool, ◌&&◌, List, [], ◌∷◌, ltb, if◌then◌else◌, Option, None, Some}
 use Rattle.arithmetic.specs.declared.Triple.{Triple}
 use Rattle.arithmetic.specs.Base.{minus_one}
 use Rattle.layout.specs.declared.node.Op.{Op}
@@ -25,8 +24,8 @@ find m e = first (λ i. registered m i && same (tree m i) (tree_of m e)) (up_to 
 
 -- what was found, else b
 abbrev pub or_else : Option ℕ → List ℕ → Built → Built
-or_else (some i) m b = built m i
-or_else none m b = b
+or_else (Some i) m b = built m i
+or_else None m b = b
 
 -- that one, else a new node: a leaf equal to a registered one is that one
 unfoldable pub find_or_make : List ℕ → Expression → Built
@@ -38,9 +37,9 @@ either_order m o l r = or_else (find m (Operation o r l)) m (find_or_make m (Ope
 
 -- two constants fold to a constant leaf; their own leaves stay
 abbrev pub folded_or : Option Triple → Option Triple → List ℕ → Op → ℕ → ℕ → Built
-folded_or (some x) (some y) m o l r = find_or_make m (constant (apply o x y))
-folded_or (some x) none m o l r = either_order m o l r
-folded_or none y m o l r = either_order m o l r
+folded_or (Some x) (Some y) m o l r = find_or_make m (constant (apply o x y))
+folded_or (Some x) None m o l r = either_order m o l r
+folded_or None y m o l r = either_order m o l r
 
 -- what is left after the tests below
 unfoldable pub folding : List ℕ → Op → ℕ → ℕ → Built

@@ -2,12 +2,13 @@
 use Rattle.std.specs.Prelude.{if◌then◌else◌}
 use mathlib.Core.Path.{◌≡◌, refl, ◌∙◌}
 use mathlib.Core.Logic.{⊎_elim}
-use mathlib.Core.List.{List}
+use mathlib.Core.List.{List, ◌++◌}
 use Prim.Native.Nat.{ℕ, zero, suc, ◌+◌, ◌<◌, ◌≤◌}
 use native.Mathlib.Nat.{not-suc-le-zero}
 use native.Mathlib.Omega.{arith}
 use lib.Dec.{ltb}
-use lib.ListN.{length, set}
+use lib.ListN.{length, set, replicate, length-replicate}
+use Rattle.std.proofs.lemmas.List.{get_or_append_left, get_or-replicate}
 use lib.Seq.{get_or-set_same, get_or-set_other}
 use borrow.Author.Tests.{lt-ltb, le-ltb}
 use Rattle.circuit.specs.Rank.{at}
@@ -59,7 +60,6 @@ module _ (rank : List ℕ) (n i v : ℕ) where
       (λ lt. rw (finished_set k lt s h f, get_or-set_other rank i k v 0 (omega arith)) (omega arith))
       (last_or i k l)
 
--- a number stored for each node in turn
-pub fill_next : (xs : List ℕ) (i n : ℕ) → i < length xs → ((k : ℕ) → k < i → at xs k ≡ n) → (k : ℕ) → k < i + 1 → at (set xs i n) k ≡ n
-fill_next xs i n s h k l =
-    ⊎_elim (λ e. rw e (get_or-set_same xs i n 0 s)) (λ lt. get_or-set_other xs i k n 0 (omega arith) ∙ h k lt) (last_or k i (omega arith))
+-- a list that begins with n times v
+pub begins : (n v : ℕ) (xs ys : List ℕ) → xs ≡ replicate n v → (i : ℕ) → i < n → at (xs ++ ys) i ≡ v
+begins n v xs ys e i l = rw e (get_or_append_left (replicate n v) ys 0 i (rw (length-replicate n v) l) ∙ get_or-replicate n i v 0 l)

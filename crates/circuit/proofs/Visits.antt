@@ -1,5 +1,7 @@
 -- The laws of the walk that ranks the nodes: what finishing a node keeps, and what a visit gives at each of its ends. Assumes nothing.
-use mathlib.Core.Path.{◌≡◌, refl, sym, ap, ◌∙◌}
+use Rattle.std.specs.Prelude.{Option, None, Some}
+use Rattle.std.proofs.lemmas.Option.{none-some, same_Some, some_pair_parts}
+use mathlib.Core.Path.{◌≡◌, refl, sym, ap, ap₂, ◌∙◌}
 use mathlib.Core.Logic.{inl, inr, ⊎_elim, ◌≢◌}
 use mathlib.Core.Bool.{true, false, ◌||◌, not, false≢true}
 use mathlib.Core.List.{List}
@@ -8,16 +10,14 @@ use native.Mathlib.Nat.{not-suc-le-zero}
 use native.Mathlib.Omega.{arith}
 use lib.ListN.{length, set}
 use lib.Seq.{get_or-set_same, get_or-set_other}
-use borrow.Author.Count.{below_more}
 use Rattle.layout.specs.declared.node.Op.{Op}
 use Rattle.layout.specs.declared.node.Expression.{Expression}
 use Rattle.layout.specs.declared.node.Expression.TheVariants.{Base, Extension, Challenge, Operation, Input}
-use Rattle.circuit.specs.declared.check.Step.TheVariants.{Stay, Two}
 use Rattle.layout.specs.Lists.{up_to, any}
 use Rattle.layout.specs.Words.{used, offset, expression_at}
 use Rattle.layout.specs.NotCircuit.{bad_node, either_operand, goes_on, cyclic}
 use Rattle.circuit.specs.Rank.{at}
-use Rattle.circuit.specs.Walk.{step_of, Unfinished, Taken, Walking, Walkable, Visiting, Below, Visited, Ranked, Walked}
+use Rattle.circuit.specs.Walk.{step_of, Unfinished, Taken, Walking, Walkable, Visiting, Below, Further, Visited, Ranked, Walked}
 use Rattle.layout.proofs.Tests.{or-false, or_right, any_at, any_one, any_none, same_or, below_or, last_or}
 use Rattle.layout.proofs.Valid.{header_top, header_room, header_fits, node_operands}
 use Rattle.circuit.proofs.Marks.{finished_lt, finished_all, finished_none, finished_set}
@@ -29,11 +29,11 @@ pub record TwoOperands (e : Expression) (a b : ℕ) : Type 0 where
   pub op : Op
   pub is : e ≡ Operation op a b
 
-pub two_operands : (e : Expression) (a b : ℕ) → step_of e ≡ Two a b → TwoOperands e a b
+pub two_operands : (e : Expression) (a b : ℕ) → step_of e ≡ Some (a, b) → TwoOperands e a b
 two_operands (Base w) a b h = let z : ◌≡◌ {A = ℕ} 0 1 = cc in absurd (omega arith)
 two_operands (Extension x) a b h = let z : ◌≡◌ {A = ℕ} 0 1 = cc in absurd (omega arith)
 two_operands (Challenge k) a b h = let z : ◌≡◌ {A = ℕ} 0 1 = cc in absurd (omega arith)
-two_operands (Operation o l r) a b h = record { op = o; is = cc }
+two_operands (Operation o l r) a b h = record { op = o; is = let p = some_pair_parts _ _ _ _ h in ap₂ (Operation o) p.0 p.1 }
 two_operands (Input q) a b h = let z : ◌≡◌ {A = ℕ} 0 1 = cc in absurd (omega arith)
 
 -- where a visit reads
@@ -55,6 +55,17 @@ visit_room m rank i done v =
       has_header = (header_room m v.able.header).0;
       fits = header_fits m i v.able.header h;
     }
+
+-- how a visit ends
+
+pub visit_finds : (m rank rank' : List ℕ) (i levels k : ℕ) → Further m rank rank' i k → Visited m rank rank' i levels (Some k)
+visit_finds m rank rank' i levels k f = record {
+  further = λ j e. rw (same_Some k j e) at f;
+  goes_on = λ e. absurd (none-some k (sym e));
+}
+
+pub visit_fails : (m rank rank' : List ℕ) (i levels : ℕ) → goes_on m levels i ≡ true → Visited m rank rank' i levels None
+visit_fails m rank rank' i levels g = record { further = λ k e. absurd (none-some k e); goes_on = λ _. g }
 
 -- the operands of a node, if it has any, are finished
 abbrev Ready : List ℕ → List ℕ → ℕ → Type 0
@@ -129,15 +140,14 @@ module _ (m rank : List ℕ) (i done : ℕ) (v : Visiting m rank i done) (unfini
       }
 
   -- the end of a visit that began at rank₀, and since then kept what was finished
-  pub finish_visit : (rank₀ : List ℕ) (levels : ℕ) → ((j : ℕ) → at rank₀ j < used m → at rank j ≡ at rank₀ j) → Below m rank₀ rank i → Ready m rank i → Visited m rank₀ (set rank i done) i levels (done + 1)
-  finish_visit rank₀ levels kept₀ below₀ ready = record {
-    walking = λ _. finish_walking ready;
-    kept = λ _ j h. let e = kept₀ j h in rank_kept j (omega arith) ∙ e;
-    here = λ _. rw rank_here finish_room;
-    last = λ _. inr (rw rank_here);
-    below = λ _ t f g j h. ⊎_elim (λ e. inr (rw e g)) (λ n. below₀ t f g j (rw (rank_other j n) at h)) (same_or j i);
-    goes_on = λ z. absurd (omega arith);
-  }
+  pub finish_visit : (rank₀ : List ℕ) (levels : ℕ) → ((j : ℕ) → at rank₀ j < used m → at rank j ≡ at rank₀ j) → Below m rank₀ rank i → Ready m rank i → Visited m rank₀ (set rank i done) i levels (Some (done + 1))
+  finish_visit rank₀ levels kept₀ below₀ ready = visit_finds m rank₀ (set rank i done) i levels (done + 1) (record {
+    walking = finish_walking ready;
+    kept = λ j h. let e = kept₀ j h in rank_kept j (omega arith) ∙ e;
+    here = rw rank_here finish_room;
+    last = inr (rw rank_here);
+    below = λ t f g j h. ⊎_elim (λ e. inr (rw e g)) (λ n. below₀ t f g j (rw (rank_other j n) at h)) (same_or j i);
+  })
 
 -- the other ends of a visit
 
@@ -145,25 +155,14 @@ module _ (m rank : List ℕ) (i done : ℕ) (v : Visiting m rank i done) (unfini
 pub none_below : (m rank : List ℕ) (i : ℕ) → Below m rank rank i
 none_below m rank i t f g j h = inl h
 
-pub visit_known : (m rank : List ℕ) (i levels done : ℕ) → Visiting m rank i done → at rank i < used m → Visited m rank rank i levels done
-visit_known m rank i levels done v h = record {
-  walking = λ _. v.walking;
-  kept = λ _ j k. refl;
-  here = λ _. h;
-  last = λ _. inl refl;
-  below = λ _. none_below m rank i;
-  goes_on = λ z. absurd (let b = v.walking.before i v.here h in omega arith);
-}
-
-pub visit_fails : (m rank rank' : List ℕ) (i levels : ℕ) → goes_on m levels i ≡ true → Visited m rank rank' i levels 0
-visit_fails m rank rank' i levels g = record {
-  walking = λ z. absurd (z refl);
-  kept = λ z. absurd (z refl);
-  here = λ z. absurd (z refl);
-  last = λ z. absurd (z refl);
-  below = λ z. absurd (z refl);
-  goes_on = λ _. g;
-}
+pub visit_known : (m rank : List ℕ) (i levels done : ℕ) → Visiting m rank i done → at rank i < used m → Visited m rank rank i levels (Some done)
+visit_known m rank i levels done v h = visit_finds m rank rank i levels done (record {
+  walking = v.walking;
+  kept = λ j k. refl;
+  here = h;
+  last = inl refl;
+  below = none_below m rank i;
+})
 
 pub out_of_levels : (m : List ℕ) (i levels : ℕ) → levels ≡ 0 → goes_on m levels i ≡ true
 unfolding goes_on
@@ -173,10 +172,10 @@ pub able_kept : (m rank rank' : List ℕ) → Walkable m rank → length rank' �
 able_kept m rank rank' w q = let b = w.room in record { header = w.header; good = w.good; room = omega arith }
 
 -- a node that stays has no operands to wait for
-pub stay_ready : (m rank : List ℕ) (i : ℕ) → step_of (expression_at m i) ≡ Stay → Ready m rank i
-stay_ready m rank i s o l r e = let h : Two l r ≡ Stay = sym (ap step_of e) ∙ s in let z : ◌≡◌ {A = ℕ} 0 1 = cc in absurd (omega arith)
+pub stay_ready : (m rank : List ℕ) (i : ℕ) → step_of (expression_at m i) ≡ None → Ready m rank i
+stay_ready m rank i s o l r e = let h : ◌≡◌ {A = Option (ℕ × ℕ)} (Some (l, r)) None = sym (ap step_of e) ∙ s in let z : ◌≡◌ {A = ℕ} 0 1 = cc in absurd (omega arith)
 
-module _ (m rank : List ℕ) (i done : ℕ) (v : Visiting m rank i done) (a b : ℕ) (s : step_of (expression_at m i) ≡ Two a b) where
+module _ (m rank : List ℕ) (i done : ℕ) (v : Visiting m rank i done) (a b : ℕ) (s : step_of (expression_at m i) ≡ Some (a, b)) where
   is_two : TwoOperands (expression_at m i) a b
   is_two = two_operands (expression_at m i) a b s
 
@@ -198,16 +197,16 @@ module _ (m rank : List ℕ) (i done : ℕ) (v : Visiting m rank i done) (a b : 
   pub goes_right : (levels : ℕ) → levels ≢ 0 → goes_on m (levels - 1) b ≡ true → goes_on m levels i ≡ true
   goes_right levels n h = goes_either levels n (or_right (goes_on m (levels - 1) a) _ h)
 
-  module _ (rank₁ : List ℕ) (levels₁ left : ℕ) (q : length rank₁ ≡ length rank) (x : Visited m rank rank₁ a levels₁ left) (some : left ≢ 0) where
+  module _ (rank₁ : List ℕ) (left : ℕ) (q : length rank₁ ≡ length rank) (x : Further m rank rank₁ a left) where
     pub visit_right : Visiting m rank₁ b left
-    visit_right = record { able = able_kept m rank rank₁ v.able q; here = two_below.1; walking = x.walking some }
+    visit_right = record { able = able_kept m rank rank₁ v.able q; here = two_below.1; walking = x.walking }
 
-    module _ (rank₂ : List ℕ) (levels₂ both : ℕ) (q₂ : length rank₂ ≡ length rank₁) (y : Visited m rank₁ rank₂ b levels₂ both) (more : both ≢ 0) where
-      pub visit_node : Visiting m rank₂ i both
-      visit_node = record { able = able_kept m rank₁ rank₂ visit_right.able q₂; here = v.here; walking = y.walking more }
+    module _ (rank₂ : List ℕ) (both : ℕ) (q₂ : length rank₂ ≡ length rank₁) (y : Further m rank₁ rank₂ b both) where
+      visit_node : Visiting m rank₂ i both
+      visit_node = record { able = able_kept m rank₁ rank₂ visit_right.able q₂; here = v.here; walking = y.walking }
 
       -- the node itself isn't finished meanwhile: it would be after its operand, and the operand is the last
-      pub still_unfinished : used m ≤ at rank i → used m ≤ at rank₂ i
+      still_unfinished : used m ≤ at rank i → used m ≤ at rank₂ i
       still_unfinished u = ⊎_elim (λ h. absurd (no h)) (λ h. h) (below_or (at rank₂ i) (used m))
         where
           t : TwoOperands (expression_at m i) a b
@@ -215,38 +214,45 @@ module _ (m rank : List ℕ) (i done : ℕ) (v : Visiting m rank i done) (a b : 
 
           no_left : at rank₁ i < used m → ⊥
           no_left h =
-              let w = x.walking some in
+              let w = x.walking in
               ⊎_elim
               (λ e. let c : at rank₁ i ≡ at rank i = ap (λ (k : List ℕ). at k i) e in omega arith)
               (λ e. let f = w.left_first i t.op a b v.here h t.is in let g = w.before i v.here h in omega arith)
-              (x.last some)
+              x.last
 
           no : at rank₂ i < used m → ⊥
           no h =
-              let w = y.walking more in
+              let w = y.walking in
               ⊎_elim
               (λ e. let c : at rank₂ i ≡ at rank₁ i = ap (λ (k : List ℕ). at k i) e in no_left (omega arith))
               (λ e. let f = w.right_first i t.op a b v.here h t.is in let g = w.before i v.here h in omega arith)
-              (y.last more)
+              y.last
 
-      pub two_kept : (j : ℕ) → at rank j < used m → at rank₂ j ≡ at rank j
-      two_kept j h = let e = x.kept some j h in y.kept more j (omega arith) ∙ e
+      two_kept : (j : ℕ) → at rank j < used m → at rank₂ j ≡ at rank j
+      two_kept j h = let e = x.kept j h in y.kept j (omega arith) ∙ e
 
-      pub two_low : Below m rank rank₂ i
+      two_low : Below m rank rank₂ i
       two_low t f g j h =
           let two = is_two in
           let (ga, gb) = f i two.op a b g two.is in
-          ⊎_elim (λ k. x.below some t f ga j k) inr (y.below more t f gb j h)
+          ⊎_elim (λ k. x.below t f ga j k) inr (y.below t f gb j h)
 
-      pub two_ready : Ready m rank₂ i
+      two_ready : Ready m rank₂ i
       two_ready o l r e =
-          let h : Two l r ≡ Two a b = sym (ap step_of e) ∙ s in
-          let f : l ≡ a = cc in
-          let g : r ≡ b = cc in
-          let c = y.kept more a (x.here some) in
-          let d = x.here some in
-          let n = y.here more in
+          let h : ◌≡◌ {A = Option (ℕ × ℕ)} (Some (l, r)) (Some (a, b)) = sym (ap step_of e) ∙ s in
+          let f : l ≡ a = (some_pair_parts _ _ _ _ h).0 in
+          let g : r ≡ b = (some_pair_parts _ _ _ _ h).1 in
+          let c = y.kept a x.here in
+          let d = x.here in
+          let n = y.here in
           (rw f (omega arith), rw g n)
+
+      -- after both operands the node is finished
+      pub two_small : used m ≤ at rank i → both < 4096
+      two_small u = finish_small m rank₂ i both visit_node (still_unfinished u)
+
+      pub finish_two : (levels : ℕ) → used m ≤ at rank i → Visited m rank (set rank₂ i both) i levels (Some (both + 1))
+      finish_two levels u = finish_visit m rank₂ i both visit_node (still_unfinished u) rank levels two_kept two_low two_ready
 
 -- the walk over all nodes
 
@@ -279,14 +285,6 @@ ranking_start m rank u = record {
 module _ (m rank₀ rank : List ℕ) (done i : ℕ) (k : Ranking m rank₀ rank done i) (here : i < used m) where
   pub ranking_visit : Walkable m rank₀ → Visiting m rank i done
   ranking_visit a = record { able = able_kept m rank₀ rank a k.same_length; here = here; walking = k.walking }
-
-  pub ranking_next : (rank' : List ℕ) (levels more : ℕ) → Visited m rank rank' i levels more → more ≢ 0 → length rank' ≡ length rank → Ranking m rank₀ rank' more (i + 1)
-  ranking_next rank' levels more v n q = record {
-    within = omega arith;
-    same_length = q ∙ k.same_length;
-    walking = v.walking n;
-    so_far = below_more (λ (j : ℕ). at rank' j < used m) i (λ j l. let e = v.kept n j (k.so_far j l) in let h = k.so_far j l in omega arith) (v.here n);
-  }
 
 -- the ends of the walk
 

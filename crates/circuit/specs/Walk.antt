@@ -1,22 +1,20 @@
 -- The walk that ranks the nodes, inside the check: it finishes each node after its operands. Assumes nothing.
-use Rattle.std.specs.Prelude.{ℕ, zero, suc, ◌+◌, ◌<◌, ◌≤◌, ◌≡◌, ◌⊎◌, ◌≢◌, Bool, true, false, not, List, length, ltb, if◌then◌else◌}
+use Rattle.std.specs.Prelude.{ℕ, zero, suc, ◌+◌, ◌<◌, ◌≤◌, ◌≡◌, ◌⊎◌, Bool, true, false, not, List, length, ltb, if◌then◌else◌, None, Option, Some}
 use Rattle.layout.specs.declared.node.Op.{Op}
 use Rattle.layout.specs.declared.node.Expression.{Expression}
 use Rattle.layout.specs.declared.node.Expression.TheVariants.{Base, Extension, Challenge, Operation, Input}
-use Rattle.circuit.specs.declared.check.Step.{Step}
-use Rattle.circuit.specs.declared.check.Step.TheVariants.{Stay, Two}
 use Rattle.layout.specs.Lists.{up_to, any}
 use Rattle.layout.specs.Words.{used, expression_at}
 use Rattle.layout.specs.NotCircuit.{bad_header, bad_node, goes_on, cyclic}
 use Rattle.circuit.specs.Rank.{at, Sorted}
 
--- what the walk does at a node
-abbrev pub step_of : Expression → Step
-step_of (Base w) = Stay
-step_of (Extension x) = Stay
-step_of (Challenge k) = Stay
-step_of (Operation o l r) = Two l r
-step_of (Input q) = Stay
+-- the two operands of an operation: where the walk goes on from a node
+abbrev pub step_of : Expression → Option (ℕ × ℕ)
+step_of (Base w) = None
+step_of (Extension x) = None
+step_of (Challenge k) = None
+step_of (Operation o l r) = Some (l, r)
+step_of (Input q) = None
 
 -- how many of the first i nodes are finished: they have a rank below n
 unfoldable pub finished : List ℕ → ℕ → ℕ → ℕ
@@ -61,15 +59,18 @@ Falls m t = (i : ℕ) (o : Op) (l r : ℕ) → t i ≡ true → expression_at m 
 abbrev pub Below : List ℕ → List ℕ → List ℕ → ℕ → Type 0
 Below m rank rank' i = (t : ℕ → Bool) → Falls m t → t i ≡ true → (j : ℕ) → at rank' j < used m → (at rank j < used m) ⊎ (t j ≡ true)
 
--- after a visit of node i: its answer is the number of finished nodes, i among them and the last if it was not, or 0 if a path from i goes on
--- for `levels`
-pub record Visited (m rank rank' : List ℕ) (i levels answer : ℕ) : Type 0 where
-  pub walking : answer ≢ 0 → Walking m rank' answer
-  pub kept : answer ≢ 0 → (j : ℕ) → at rank j < used m → at rank' j ≡ at rank j
-  pub here : answer ≢ 0 → at rank' i < used m
-  pub last : answer ≢ 0 → (rank' ≡ rank) ⊎ (at rank' i + 1 ≡ answer)
-  pub below : answer ≢ 0 → Below m rank rank' i
-  pub goes_on : answer ≡ 0 → goes_on m levels i ≡ true
+-- k nodes are finished now, node i among them, and the last if it was not
+pub record Further (m rank rank' : List ℕ) (i k : ℕ) : Type 0 where
+  pub walking : Walking m rank' k
+  pub kept : (j : ℕ) → at rank j < used m → at rank' j ≡ at rank j
+  pub here : at rank' i < used m
+  pub last : (rank' ≡ rank) ⊎ (at rank' i + 1 ≡ k)
+  pub below : Below m rank rank' i
+
+-- after a visit of node i: its answer is the number of finished nodes, or none if a path from i goes on for `levels`
+pub record Visited (m rank rank' : List ℕ) (i levels : ℕ) (answer : Option ℕ) : Type 0 where
+  pub further : (k : ℕ) → answer ≡ Some k → Further m rank rank' i k
+  pub goes_on : answer ≡ None → goes_on m levels i ≡ true
 
 -- all nodes are finished
 pub record Ranked (m rank : List ℕ) : Type 0 where

@@ -1,35 +1,24 @@
 // The public calls of this layer. They ask nothing of the words that are lent: all are checked, each time.
 ghost use Rattle.std.specs.Prelude.{◌≡◌, not};
-ghost use Rattle.layout.specs.Words.{row_word};
 ghost use Rattle.layout.specs.NotCircuit.{not_circuit};
 ghost use Rattle.layout.specs.Calls.{start_call, read_call, used_call, free_call};
 ghost use Rattle.layout.specs.Answers.{told_start, told_node, told_count};
 
 use crate::check::{check, limit_of};
 use crate::place::{HEADER, node_at};
-use layout::answer::{Counted, NodeRead, Started};
-use layout::node::RowKind;
-use layout::refusal::{BAD_ID, NOT_CIRCUIT};
-
-fn row_word(kind: RowKind) -> u64
-    ensures { result ≡ row_word kind }
-{
-    match kind {
-        RowKind::Single => 1,
-        RowKind::Dual => 2,
-    }
-}
+use layout::node::{Node, RowKind};
+use layout::refusal::Refusal;
 
 // Starts a circuit in the lent words: single-row or dual-row, and no node used.
-pub fn start(m: &mut [u64], kind: RowKind) -> Started
+pub fn start(m: &mut [u64], kind: RowKind) -> Result<(), Refusal>
     ensures { told_start result m.new ≡ start_call m.old kind }
 {
     if m.len() < HEADER {
-        return Started::Refused(NOT_CIRCUIT);
+        return Err(Refusal::NotCircuit);
     }
-    m[0] = row_word(kind);
+    m[0] = u64::from(kind);
     m[1] = 0;
-    Started::Fresh
+    Ok(())
 }
 
 // Whether the words are a circuit.
@@ -42,34 +31,34 @@ pub fn is_circuit(m: &[u64]) -> bool
 }
 
 // A node by its id: its expression, registered or loose, its reference count.
-pub fn read(m: &[u64], i: u64) -> NodeRead
+pub fn read(m: &[u64], i: u64) -> Result<Node, Refusal>
     ensures { told_node result ≡ read_call m.now i }
 {
     if !is_circuit(m) {
-        return NodeRead::Refused(NOT_CIRCUIT);
+        return Err(Refusal::NotCircuit);
     }
     if m[1] <= i {
-        return NodeRead::Refused(BAD_ID);
+        return Err(Refusal::BadId);
     }
-    NodeRead::Found(node_at(m, i))
+    Ok(node_at(m, i))
 }
 
 // How many nodes there are.
-pub fn used(m: &[u64]) -> Counted
+pub fn used(m: &[u64]) -> Result<u64, Refusal>
     ensures { told_count result ≡ used_call m.now }
 {
     if !is_circuit(m) {
-        return Counted::Refused(NOT_CIRCUIT);
+        return Err(Refusal::NotCircuit);
     }
-    Counted::Count(m[1])
+    Ok(m[1])
 }
 
 // How many more there is room for.
-pub fn free(m: &[u64]) -> Counted
+pub fn free(m: &[u64]) -> Result<u64, Refusal>
     ensures { told_count result ≡ free_call m.now }
 {
     if !is_circuit(m) {
-        return Counted::Refused(NOT_CIRCUIT);
+        return Err(Refusal::NotCircuit);
     }
-    Counted::Count(limit_of(m) - m[1])
+    Ok(limit_of(m) - m[1])
 }

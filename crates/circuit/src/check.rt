@@ -8,11 +8,9 @@ ghost use Rattle.circuit.specs.Walk.{step_of, Unfinished, Walkable, Visiting, Vi
 
 use crate::place::{HEADER, PLACE, column_of, expression_at};
 use arithmetic::Triple;
+use field::base::P;
 use field::extension::unlifts;
 use layout::node::{Expression, Position};
-
-// p = 2^64 - 2^32 + 1
-const P: u64 = 18446744069414584321;
 
 const MOST_NODES: usize = 4096;
 
@@ -26,10 +24,7 @@ pub fn limit_of(m: &[u64]) -> u64
         return 0;
     }
     let places = (m.len() - HEADER) / PLACE;
-    if places < MOST_NODES {
-        return places as u64;
-    }
-    MOST_NODES as u64
+    places.min(MOST_NODES) as u64
 }
 
 // No words for the row kind and the used count, unknown row kind, or more nodes than there is room for.
@@ -147,38 +142,29 @@ fn any_bad(m: &[u64]) -> bool
     requires { bad_header m.now ≡ false }
     ensures { result ≡ any (bad_node m.now) (up_to (used m.now)) }
 {
-    let n = m[1];
-    let mut i: u64 = 0;
-    while i < n {
+    for i in 0..m[1] {
         if bad_node(m, i) {
             return true;
         }
-        i += 1;
     }
     false
 }
 
-// What the walk does at a node.
-#[derive(Clone, Copy)]
-pub enum Step {
-    Stay,
-    Two(u64, u64),
-}
-
-fn step_of(e: Expression) -> Step
+// The two operands of an operation: where the walk goes on from a node.
+fn step_of(e: Expression) -> Option<(u64, u64)>
     ensures { result ≡ step_of e }
 {
     match e {
-        Expression::Base(_) => Step::Stay,
-        Expression::Extension(_) => Step::Stay,
-        Expression::Challenge(_) => Step::Stay,
-        Expression::Operation(_, l, r) => Step::Two(l, r),
-        Expression::Input(_) => Step::Stay,
+        Expression::Base(_) => None,
+        Expression::Extension(_) => None,
+        Expression::Challenge(_) => None,
+        Expression::Operation(_, l, r) => Some((l, r)),
+        Expression::Input(_) => None,
     }
 }
 
 // The operands of node i, if it is an operation.
-pub fn step_at(m: &[u64], i: u64) -> Step
+pub fn step_at(m: &[u64], i: u64) -> Option<(u64, u64)>
     requires { offset i + 6 ≤ length m.now }
     ensures { result ≡ step_of (expression_at m.now i) }
 {
@@ -186,35 +172,29 @@ pub fn step_at(m: &[u64], i: u64) -> Step
 }
 
 // Finishes node i, after all below it, each once: a node whose rank is not below the used count is not finished. `done` are finished so far,
-// and the answer is how many are then; or 0, no number of finished nodes, where a path from i goes on for so many levels.
-pub fn visit(m: &[u64], rank: &mut [u64], i: u64, done: u64, levels: u64) -> u64
+// and the answer is how many are then; or none where a path from i goes on for so many levels.
+pub fn visit(m: &[u64], rank: &mut [u64], i: u64, done: u64, levels: u64) -> Option<u64>
     requires { Visiting m.now rank.old i done }
     ensures { Visited m.now rank.old rank.new i levels result }
 {
     let node = i as usize;
     if rank[node] < m[1] {
-        return done;
+        return Some(done);
     }
     if levels == 0 {
-        return 0;
+        return None;
     }
     let s = step_of(expression_at(m, i));
     match s {
-        Step::Stay => {
+        None => {
             rank[node] = done;
-            done + 1
+            Some(done + 1)
         }
-        Step::Two(a, b) => {
-            let left = visit(m, rank, a, done, levels - 1);
-            if left == 0 {
-                return 0;
-            }
-            let both = visit(m, rank, b, left, levels - 1);
-            if both == 0 {
-                return 0;
-            }
+        Some((a, b)) => {
+            let left = visit(m, rank, a, done, levels - 1)?;
+            let both = visit(m, rank, b, left, levels - 1)?;
             rank[node] = both;
-            both + 1
+            Some(both + 1)
         }
     }
 }
@@ -223,12 +203,7 @@ pub fn unfinish(rank: &mut [u64], n: u64)
     requires { n ≤ length rank.old }
     ensures { Unfinished rank.new n }
 {
-    let mut i: u64 = 0;
-    while i < n {
-        let node = i as usize;
-        rank[node] = n;
-        i += 1;
-    }
+    rank[..n as usize].fill(n);
 }
 
 // Ranks the nodes; false where there is a cycle.
@@ -239,14 +214,11 @@ fn walk(m: &[u64], rank: &mut [u64]) -> bool
     let n = m[1];
     unfinish(rank, n);
     let mut done: u64 = 0;
-    let mut i: u64 = 0;
-    while i < n {
-        let more = visit(m, rank, i, done, n);
-        if more == 0 {
+    for i in 0..n {
+        let Some(more) = visit(m, rank, i, done, n) else {
             return false;
-        }
+        };
         done = more;
-        i += 1;
     }
     true
 }
@@ -256,12 +228,8 @@ fn list(order: &mut [u64], rank: &[u64], n: u64)
     requires { Placing rank.now n × ((n ≤ length order.old) × (n ≤ length rank.now)) }
     ensures { Placed order.new rank.now n }
 {
-    let mut i: u64 = 0;
-    while i < n {
-        let node = i as usize;
-        let place = rank[node] as usize;
-        order[place] = i;
-        i += 1;
+    for i in 0..n {
+        order[rank[i as usize] as usize] = i;
     }
 }
 

@@ -1,7 +1,8 @@
 // The words of a place, read and written: nothing above this module knows where they stand.
 ghost use Rattle.std.specs.Prelude.{◌≡◌, [], ◌∷◌, ◌+◌, ◌<◌, ◌≤◌, length, set};
 ghost use Rattle.std.proofs.lemmas.List.Edits.{sets};
-ghost use Rattle.layout.specs.Words.{used, limit, offset, decode, expression_at, node_at, op_kind, input_kind, column, encode, made};
+ghost use Rattle.layout.specs.Words.{used, limit, offset, decode, expression_at, node_at, input_kind, column, encode, made};
+ghost use Rattle.circuit.specs.Rank.{at};
 
 use arithmetic::Triple;
 use layout::node::{Expression, Node, Op, Position};
@@ -12,7 +13,14 @@ pub const HEADER: usize = 2;
 // The words of a place.
 pub const PLACE: usize = 6;
 
-// What a kind and its three words say.
+// Word i of lent words, or 0 beyond them.
+pub fn entry(words: &[u64], i: u64) -> u64
+    ensures { result ≡ at words.now i }
+{
+    words.get(i as usize).copied().unwrap_or(0)
+}
+
+// What a kind and its three words say. The kinds are numbers here and in the two functions that write them, since C has the words before it.
 fn decoded(kind: u64, a: u64, b: u64, c: u64) -> Expression
     ensures { result ≡ decode kind a b c }
 {
@@ -57,22 +65,12 @@ pub fn node_at(m: &[u64], i: u64) -> Node
 }
 
 // An expression's kind and three words.
-#[derive(Clone, Copy)]
+#[derive(Clone, Copy, Debug, PartialEq, Eq)]
 pub struct FourWords {
     pub kind: u64,
     pub first: u64,
     pub second: u64,
     pub third: u64,
-}
-
-// The kind of an operation.
-fn op_kind(o: Op) -> u64
-    ensures { result ≡ op_kind o }
-{
-    match o {
-        Op::Add => 3,
-        Op::Multiply => 4,
-    }
 }
 
 // The kind of an input.
@@ -123,7 +121,7 @@ pub fn words_of(e: Expression) -> FourWords
             third: 0,
         },
         Expression::Operation(o, l, r) => FourWords {
-            kind: op_kind(o),
+            kind: u64::from(o),
             first: l,
             second: r,
             third: 0,

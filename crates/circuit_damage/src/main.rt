@@ -6,13 +6,16 @@ ghost use Rattle.std.specs.Prelude.{◌<◌, ◌≤◌};
 
 use circuit::calls::{free, read, start, used};
 use circuit::place::words_of;
-use layout::answer::{Counted, NodeRead, Started};
-use layout::node::RowKind;
-use layout::refusal::{BAD_ID, NOT_CIRCUIT};
+use layout::node::{Node, RowKind};
+use layout::refusal::Refusal;
 use std::io;
 
 // p - 1, the last word of the base field
-const LAST: u64 = 18446744069414584320;
+const LAST: u64 = field::base::P - 1;
+
+const NOT_CIRCUIT: u64 = Refusal::NotCircuit as u64;
+
+const BAD_ID: u64 = Refusal::BadId as u64;
 
 // How many answers were compared, and how many differed.
 #[derive(Clone, Copy)]
@@ -38,18 +41,10 @@ fn compare(rt: &impl Print, t: Tally, got: u64, want: u64) -> io::Result<Tally> 
 }
 
 // The number of an answer: 0 where the call is accepted.
-fn number(c: Counted) -> u64 {
-    match c {
-        Counted::Count(_) => 0,
-        Counted::Refused(k) => k,
-    }
-}
-
-// The value of an answer: 0 where the call is refused.
-fn value(c: Counted) -> u64 {
-    match c {
-        Counted::Count(n) => n,
-        Counted::Refused(_) => 0,
+fn number<T: Copy>(answer: Result<T, Refusal>) -> u64 {
+    match answer {
+        Ok(_) => 0,
+        Err(r) => u64::from(r),
     }
 }
 
@@ -219,7 +214,7 @@ fn cut(rt: &impl Print, t: Tally, k: usize, want: u64, places: u64) -> io::Resul
     let m = sample();
     let mut r = t;
     r = compare(rt, r, number(used(&m[0..k])), want)?;
-    r = compare(rt, r, value(free(&m[0..k])), places)?;
+    r = compare(rt, r, free(&m[0..k]).unwrap_or(0), places)?;
     Ok(r)
 }
 
@@ -231,7 +226,7 @@ fn fresh(rt: &impl Print, t: Tally, k: usize, want: u64, places: u64) -> io::Res
     m[0] = 1;
     let mut r = t;
     r = compare(rt, r, number(used(&m[0..k])), want)?;
-    r = compare(rt, r, value(free(&m[0..k])), places)?;
+    r = compare(rt, r, free(&m[0..k]).unwrap_or(0), places)?;
     Ok(r)
 }
 
@@ -256,15 +251,15 @@ fn lengths(rt: &impl Print, t: Tally) -> io::Result<Tally> {
 }
 
 // What was read, as the six words of a place; all 0 where the call is refused.
-fn words(r: NodeRead) -> [u64; 6] {
-    match r {
-        NodeRead::Found(n) => {
+fn words(answer: Result<Node, Refusal>) -> [u64; 6] {
+    match answer {
+        Ok(n) => {
             let e = n.expression;
             let w = words_of(e);
-            let mark = if n.registered { 1 } else { 0 };
+            let mark = u64::from(n.registered);
             [w.kind, w.first, w.second, w.third, mark, n.references]
         }
-        NodeRead::Refused(_) => [0, 0, 0, 0, 0, 0],
+        Err(_) => [0, 0, 0, 0, 0, 0],
     }
 }
 
@@ -280,13 +275,6 @@ fn node(rt: &impl Print, t: Tally, i: u64, want: [u64; 6]) -> io::Result<Tally> 
     r = compare(rt, r, got[4], want[4])?;
     r = compare(rt, r, got[5], want[5])?;
     Ok(r)
-}
-
-fn read_number(r: NodeRead) -> u64 {
-    match r {
-        NodeRead::Found(_) => 0,
-        NodeRead::Refused(k) => k,
-    }
 }
 
 // The sample's nodes.
@@ -310,18 +298,11 @@ fn ids(rt: &impl Print, t: Tally) -> io::Result<Tally> {
     let mut bad = sample();
     bad[2] = 9;
     let mut r = t;
-    r = compare(rt, r, read_number(read(&m, 8)), 0)?;
-    r = compare(rt, r, read_number(read(&m, 9)), BAD_ID)?;
-    r = compare(rt, r, read_number(read(&m, 18446744073709551615)), BAD_ID)?;
-    r = compare(rt, r, read_number(read(&bad, 9)), NOT_CIRCUIT)?;
+    r = compare(rt, r, number(read(&m, 8)), 0)?;
+    r = compare(rt, r, number(read(&m, 9)), BAD_ID)?;
+    r = compare(rt, r, number(read(&m, 18446744073709551615)), BAD_ID)?;
+    r = compare(rt, r, number(read(&bad, 9)), NOT_CIRCUIT)?;
     Ok(r)
-}
-
-fn start_number(s: Started) -> u64 {
-    match s {
-        Started::Fresh => 0,
-        Started::Refused(k) => k,
-    }
 }
 
 // A start in the first k of four words: its number, and the words afterwards.
@@ -337,7 +318,7 @@ fn started(
 {
     let mut m = [77u64; 4];
     let mut r = t;
-    r = compare(rt, r, start_number(start(&mut m[0..k], kind)), want)?;
+    r = compare(rt, r, number(start(&mut m[0..k], kind)), want)?;
     r = compare(rt, r, m[0], after[0])?;
     r = compare(rt, r, m[1], after[1])?;
     r = compare(rt, r, m[2], after[2])?;
@@ -381,10 +362,8 @@ fn put_link(m: &mut [u64], i: usize, n: usize, kind: u64)
 }
 
 fn chain(m: &mut [u64], n: usize, kind: u64) {
-    let mut i: usize = 0;
-    while i < n {
+    for i in 0..n {
         put_link(m, i, n, kind);
-        i += 1;
     }
 }
 
@@ -395,11 +374,11 @@ fn large(rt: &impl Print, t: Tally) -> io::Result<Tally> {
     let mut r = t;
     m[1] = 4096;
     r = compare(rt, r, number(used(&m)), 0)?;
-    r = compare(rt, r, value(free(&m)), 0)?;
+    r = compare(rt, r, free(&m).unwrap_or(0), 0)?;
     m[1] = 4097;
     r = compare(rt, r, number(used(&m)), NOT_CIRCUIT)?;
     m[1] = 4095;
-    r = compare(rt, r, value(free(&m)), 1)?;
+    r = compare(rt, r, free(&m).unwrap_or(0), 1)?;
     m[1] = 4096;
     chain(&mut m, 4096, 0);
     r = compare(rt, r, number(used(&m)), 0)?;

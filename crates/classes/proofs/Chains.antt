@@ -1,4 +1,6 @@
 -- The laws of the table of keys: a search along a chain, and a key added. Assumes nothing.
+use Rattle.std.specs.Prelude.{Some, None}
+use Rattle.std.proofs.lemmas.Option.{none-some, same_Some}
 use Prim.Native.Nat.{ℕ, suc, ◌+◌, ◌<◌, ◌≤◌}
 use mathlib.Core.Path.{◌≡◌, refl, sym, ap, ◌∙◌}
 use mathlib.Core.Logic.{⊎_elim, ◌≢◌}
@@ -12,7 +14,7 @@ use lib.Seq.{sets, sets-eq, length-take-le, get_or-set_same, get_or-set_other, g
 use Rattle.layout.specs.Lists.{same_words}
 use Rattle.layout.proofs.Tests.{last_or, below_or, same_or}
 use Rattle.layout.proofs.Lists.{clash}
-use Rattle.classes.specs.Table.{count, place, entry, link, head, spread, Last, Tabled, Sought, Roomy, Written, Interned}
+use Rattle.classes.specs.Table.{count, place, entry, link, head, spread, Last, Tabled, Named, Sought, Roomy, Written, Interned}
 use Rattle.classes.proofs.Words.{words_refl, words_equal}
 
 pub spread_lt : (w : List ℕ) → spread w < 4093
@@ -57,11 +59,13 @@ module _ (t w : List ℕ) (s : Tabled t) where
               (below_or u v);
         }
 
-    pub go_hit : same_words (entry t v) w ≡ true → Sought t w v
-    go_hit e = record { hit = λ _. (g.high, words_equal (entry t v) w e); miss = λ z. absurd (n z) }
+    pub go_hit : same_words (entry t v) w ≡ true → Sought t w (Some v)
+    go_hit e =
+        let here : Named t w v = record { low = omega arith; high = g.high; entered = words_equal (entry t v) w e } in
+        record { hit = λ u q. rw (same_Some v u q) at here; miss = λ z. absurd (none-some v (sym z)) }
 
-  pub go_end : (v : ℕ) → v ≡ 0 → Going t w v → Sought t w 0
-  go_end v z g = record { hit = λ n. absurd (n refl); miss = λ _ u a b q. g.past u (omega arith) b q }
+  pub go_end : (v : ℕ) → v ≡ 0 → Going t w v → Sought t w None
+  go_end v z g = record { hit = λ u q. absurd (none-some u q); miss = λ _ u a b q. g.past u (omega arith) b q }
 
 -- a key written
 
@@ -118,7 +122,7 @@ last_keeps t t' h top p f l =
       skips = λ q b c e. l.skips q b c (ap spread (sym (f q (omega arith) c)) ∙ e);
     }
 
-module _ (t t₁ w : List ℕ) (h v : ℕ) (r : Roomy t) (s : Sought t w 0) (e : h ≡ spread w) (n : v ≡ suc (count t)) (g : Written t t₁ w v (head t h)) (z : length t₁ ≡ length t) where
+module _ (t t₁ w : List ℕ) (h v : ℕ) (r : Roomy t) (s : Sought t w None) (e : h ≡ spread w) (n : v ≡ suc (count t)) (g : Written t t₁ w v (head t h)) (z : length t₁ ≡ length t) where
   abbrev after : List ℕ
   after = set (set t₁ 0 v) (1 + h) v
 
@@ -202,12 +206,12 @@ module _ (t t₁ w : List ℕ) (h v : ℕ) (r : Roomy t) (s : Sought t w 0) (e :
     keeps = old;
   }
 
-pub key_known : (t w : List ℕ) (r : ℕ) → Roomy t → Sought t w r → (r ≡ 0 → ⊥) → Interned t t w r
-key_known t w r s g n = record {
+pub key_known : (t w : List ℕ) (v : ℕ) → Roomy t → Named t w v → Interned t t w v
+key_known t w v s g = record {
   tabled = s.tabled;
-  low = omega arith;
-  high = (g.hit n).0;
-  entered = (g.hit n).1;
+  low = g.low;
+  high = g.high;
+  entered = g.entered;
   grows = omega arith;
   little = omega arith;
   keeps = λ v _ _. refl;

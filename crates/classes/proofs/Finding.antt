@@ -1,9 +1,9 @@
 -- The laws of the search, of a node that joins the tables, and of the least ids as classes. Assumes nothing.
+use Rattle.std.specs.Prelude.{Option, None, Some}
 use Prim.Native.Nat.{ℕ, ◌+◌, ◌<◌, ◌≤◌}
 use mathlib.Core.Path.{◌≡◌, refl, sym, ap, ◌∙◌}
 use mathlib.Core.Logic.{⊎_elim}
 use mathlib.Core.Bool.{Bool, true, false, ◌&&◌, ◌||◌}
-use mathlib.Core.Option.{Option, none, some}
 use mathlib.Core.List.{List}
 use native.Mathlib.Omega.{arith}
 use lib.Dec.{eqb, leb}
@@ -25,7 +25,7 @@ use Rattle.layout.proofs.Valid.{valid_operands, valid_fits, valid_room, limit_to
 use Rattle.layout.proofs.Trees.{tree_fixed}
 use Rattle.layout.proofs.Cycle.{either_map}
 use Rattle.classes.specs.Classes.{or_itself, class_of}
-use Rattle.classes.specs.Table.{entry, Sought}
+use Rattle.classes.specs.Table.{entry, Named, Sought}
 use Rattle.classes.specs.Numbers.{key_of, Numbered, itself, Enterable, Entered}
 use Rattle.classes.specs.Least.{slot, least_with, any_id, Firsts, noted, Inside, Lowered}
 use Rattle.classes.specs.Find.{Classed, Fillable, Sorting, least_equal, Findable, last, Joinable}
@@ -42,8 +42,8 @@ module _ (m : List ℕ) where
   class_least i l = go (first (λ j. same (tree m j) (tree m i)) (up_to (used m))) (first_found (λ j. same (tree m j) (tree m i)) (used m))
     where
       go : (r : Option ℕ) → Found (λ j. same (tree m j) (tree m i)) (used m) r → Least (λ j. same (tree m j) (tree m i)) (used m) (or_itself i r)
-      go none f = clash (same (tree m i) (tree m i)) (same_refl (tree m i)) (f i l)
-      go (some j) f = f
+      go None f = clash (same (tree m i) (tree m i)) (same_refl (tree m i)) (f i l)
+      go (Some j) f = f
 
   -- two nodes have one class exactly when they are equal by structure
   pub class_law : (i j : ℕ) → i < used m → j < used m → Iff (class_of m i ≡ class_of m j) (same (tree m i) (tree m j) ≡ true)
@@ -114,33 +114,32 @@ module _ (m num t least : List ℕ) (e : Expression) (f : Findable m num t least
         back = λ h. s.back (sym (ap shape (tree_fixed m f.circuit j l)) ∙ same_shape (tree m j) (tree_of m e) h);
       }
 
-  pub find_none : (v : ℕ) → v ≡ 0 → Sought t (key_of num e) v → none ≡ least_equal m e
+  pub find_none : Sought t (key_of num e) None → None ≡ least_equal m e
   unfolding least_equal
-  find_none v z s =
+  find_none s =
       sym
-      (first-is (λ i. registered m i && same (tree m i) (tree_of m e)) (used m) none
+      (first-is (λ i. registered m i && same (tree m i) (tree_of m e)) (used m) None
       (λ j l. is_false (registered m j && same (tree m j) (tree_of m e))
       (λ h.
       let o = f.classed.numbered.filed j l in
-      s.miss z (at num j) o.low o.high (o.entered ∙ (key_same j l).back (and-true (registered m j) (same (tree m j) (tree_of m e)) h).1))))
+      s.miss refl (at num j) o.low o.high (o.entered ∙ (key_same j l).back (and-true (registered m j) (same (tree m j) (tree_of m e)) h).1))))
 
-  pub find_slot : (v : ℕ) → (v ≡ 0 → ⊥) → Sought t (key_of num e) v → slot (at least v) ≡ least_equal m e
+  pub find_slot : (v : ℕ) → Named t (key_of num e) v → slot (at least v) ≡ least_equal m e
   unfolding least_equal least_with
-  find_slot v z s =
-      let h = s.hit z in
+  find_slot v h =
       f.classed.firsts.each v
       ∙ first-same (λ i. registered m i && eqb (at num i) v) (λ i. registered m i && same (tree m i) (tree_of m e)) (used m)
       (λ j l.
       let o = f.classed.numbered.filed j l in
       ap (λ (b : Bool). registered m j && b)
       (same_test (eqb (at num j) v) (same (tree m j) (tree_of m e))
-      (λ q. (key_same j l).there (sym o.entered ∙ ap (entry t) (eqb-true (at num j) v q) ∙ h.1))
-      (λ q. eq-eqb (at num j) v (f.classed.numbered.tabled.distinct (at num j) v o.low o.high (omega arith) h.0 (o.entered ∙ (key_same j l).back q ∙ sym h.1)))))
+      (λ q. (key_same j l).there (sym o.entered ∙ ap (entry t) (eqb-true (at num j) v q) ∙ h.entered))
+      (λ q. eq-eqb (at num j) v (f.classed.numbered.tabled.distinct (at num j) v o.low o.high h.low h.high (o.entered ∙ (key_same j l).back q ∙ sym h.entered)))))
 
   -- the number has a place in the list of least ids
-  pub find_inside : (v : ℕ) → (v ≡ 0 → ⊥) → Sought t (key_of num e) v → v < length least
-  find_inside v z s =
-      let a = (s.hit z).0 in
+  pub find_inside : (v : ℕ) → Named t (key_of num e) v → v < length least
+  find_inside v h =
+      let a = h.high in
       let b = f.classed.numbered.few in
       let c = f.classed.leasts in
       let d = valid_room m f.circuit in

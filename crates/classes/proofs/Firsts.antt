@@ -1,50 +1,40 @@
 -- The laws of the least ids of the class numbers. Assumes nothing.
-use Rattle.std.specs.Prelude.{if◌then◌else◌}
+use Rattle.std.specs.Prelude.{if◌then◌else◌, Option, None, Some}
+use Rattle.std.specs.Option.{SomeIff}
 use Prim.Native.Nat.{ℕ, zero, suc, ◌+◌, ◌-◌, ◌<◌, ◌≤◌}
 use mathlib.Core.Path.{◌≡◌, refl, sym, ap, ◌∙◌}
 use mathlib.Core.Logic.{⊎_elim, ◌≢◌}
 use mathlib.Core.Bool.{Bool, true, false, ◌&&◌}
-use mathlib.Core.Option.{Option, none, some}
 use mathlib.Core.List.{List}
 use native.Mathlib.Numerals.{add-one}
 use native.Mathlib.Omega.{arith}
 use lib.Dec.{eqb}
-use lib.ListN.{length, get_or, set, length-set, get_or-eq_default}
+use lib.ListN.{length, get_or, set, get_or-eq_default}
 use lib.Seq.{get_or-set_same, get_or-set_other}
 use borrow.Author.Tests.{eq-eqb, ne_eqb}
 use Rattle.layout.specs.Lists.{up_to, first}
 use Rattle.circuit.specs.Rank.{at}
 use Rattle.layout.proofs.Tests.{last_or, below_or, same_or}
 use Rattle.layout.proofs.Lists.{clash, or_next, first_more, first_found, first-is, Found}
-use Rattle.classes.specs.Least.{slot, least_with, any_id, Firsts, noted, Inside, Lowered}
-
--- words made 0
-pub blank-more : (s : List ℕ) (i : ℕ) → i < length s → ((j : ℕ) → j < i → get_or s j 0 ≡ 0) → (j : ℕ) → j < i + 1 → get_or (set s i 0) j 0 ≡ 0
-blank-more s i l h j m = ⊎_elim
-    (λ e. rw e (get_or-set_same s i 0 0 l))
-    (λ k. get_or-set_other s i j 0 0 (omega arith) ∙ h j k)
-    (last_or j i (omega arith))
-
-pub blank_done : (s : List ℕ) (i n : ℕ) → n ≤ i → ((j : ℕ) → j < i → get_or s j 0 ≡ 0) → (j : ℕ) → j < n → get_or s j 0 ≡ 0
-blank_done s i n l h j k = h j (omega arith)
+use Rattle.classes.specs.Least.{slot, least_with, any_id, Firsts, noted, Inside}
 
 -- one id more
 
 more_no : (q : ℕ → Bool) (n : ℕ) → q n ≡ false → first q (up_to (n + 1)) ≡ first q (up_to n)
 more_no q n e = rw (add-one, first_more q n, e) (go (first q (up_to n)))
   where
-    go : (r : Option ℕ) → or_next r none ≡ r
-    go none = refl
-    go (some i) = refl
+    go : (r : Option ℕ) → or_next r None ≡ r
+    go None = refl
+    go (Some i) = refl
 
-more_yes : (q : ℕ → Bool) (n : ℕ) → q n ≡ true → first q (up_to (n + 1)) ≡ or_next (first q (up_to n)) (some n)
+more_yes : (q : ℕ → Bool) (n : ℕ) → q n ≡ true → first q (up_to (n + 1)) ≡ or_next (first q (up_to n)) (Some n)
 more_yes q n e = rw (add-one, first_more q n, e)
 
-noted_same : (least : List ℕ) (v i : ℕ) → v < length least → slot (at (noted least v i) v) ≡ or_next (slot (at least v)) (some i)
+noted_same : (least : List ℕ) (v i : ℕ) → v < length least → slot (at (noted least v i) v) ≡ or_next (slot (at least v)) (Some i)
 unfolding noted
 noted_same least v i l = go (at least v) refl
   where
-    go : (s : ℕ) → at least v ≡ s → slot (at (if eqb (at least v) 0 then set least v (i + 1) else least) v) ≡ or_next (slot (at least v)) (some i)
+    go : (s : ℕ) → at least v ≡ s → slot (at (if eqb (at least v) 0 then set least v (i + 1) else least) v) ≡ or_next (slot (at least v)) (Some i)
     go zero e = rw e (rw (get_or-set_same least v (i + 1) 0 l, add-one))
     go (suc s) e = rw (ne_eqb (at least v) 0 (omega arith), e)
 
@@ -75,8 +65,8 @@ module _ (p : ℕ → Bool) (num least : List ℕ) where
           (λ q.
           ap (λ (x : ℕ). slot (at (noted least (at num n) n) x)) q
           ∙ noted_same least (at num n) n l
-          ∙ ap (λ (x : ℕ). or_next (slot (at least x)) (some n)) (sym q)
-          ∙ ap (λ (x : Option ℕ). or_next x (some n)) (f.each v)
+          ∙ ap (λ (x : ℕ). or_next (slot (at least x)) (Some n)) (sym q)
+          ∙ ap (λ (x : Option ℕ). or_next x (Some n)) (f.each v)
           ∙ sym (more_yes (λ i. p i && eqb (at num i) v) n (rw (e, eq-eqb (at num n) v (sym q)))))
           (λ d.
           ap slot (noted_other least (at num n) n v d)
@@ -86,100 +76,62 @@ module _ (p : ℕ → Bool) (num least : List ℕ) where
     }
 
 -- what is the first of some is the first of more
-pub first_longer : (q : ℕ → Bool) (k n i : ℕ) → k ≤ n → first q (up_to k) ≡ some i → first q (up_to n) ≡ some i
+pub first_longer : (q : ℕ → Bool) (k n i : ℕ) → k ≤ n → first q (up_to k) ≡ Some i → first q (up_to n) ≡ Some i
 first_longer q k n i l e =
-    let f : Found q k (some i) = rw e at (first_found q k) in
+    let f : Found q k (Some i) = rw e at (first_found q k) in
     let a = f.below in
-    first-is q n (some i) (record { below = omega arith; passes = f.passes; before = f.before })
+    first-is q n (Some i) (record { below = omega arith; passes = f.passes; before = f.before })
 
--- what a word stands for
-pub slot_none : (s : ℕ) → s ≡ 0 → none ≡ slot s
-slot_none s e = rw e
-
-pub slot_at : (s : ℕ) → (s ≡ 0 → ⊥) → some (s - 1) ≡ slot s
+-- what a word stands for: the number before it
+slot_at : (s : ℕ) → (s ≡ 0 → ⊥) → Some (s - 1) ≡ slot s
 slot_at zero n = absurd (n refl)
-slot_at (suc r) n = ap some (less r)
+slot_at (suc r) n = ap Some (less r)
   where
     less : (r : ℕ) → suc r - 1 ≡ r
     less r = omega arith
 
+pub slot_told : (s : ℕ) (r : Option ℕ) → SomeIff r (1 ≤ s) (s - 1) → r ≡ slot s
+slot_told s None n = let z : s ≡ 0 = omega arith in rw z
+slot_told s (Some i) h = let l = h.0 in ap Some h.1 ∙ slot_at s (λ z. omega arith)
+
 -- a word that stands for the first of those that pass, of which there is one
-pub slot_some : (q : ℕ → Bool) (i n s : ℕ) → i < n → q i ≡ true → slot s ≡ first q (up_to (i + 1)) → (1 ≤ s) × (some (s - 1) ≡ first q (up_to n))
+pub slot_some : (q : ℕ → Bool) (i n s : ℕ) → i < n → q i ≡ true → slot s ≡ first q (up_to (i + 1)) → (1 ≤ s) × (Some (s - 1) ≡ first q (up_to n))
 slot_some q i n zero l y e =
-    let f : Found q (i + 1) none = rw (sym e) at (first_found q (i + 1)) in
+    let f : Found q (i + 1) None = rw (sym e) at (first_found q (i + 1)) in
     clash (q i) y (f i (omega arith))
 slot_some q i n (suc r) l y e = (omega arith, slot_at (suc r) (λ z. omega arith) ∙ sym (first_longer q (i + 1) n r (omega arith) (sym e)))
 
--- the loop that lists the registered ids
-pub record Listing (p : ℕ → Bool) (num least₀ least : List ℕ) (n i : ℕ) : Type 0 where
-  pub most : i ≤ n
-  pub leasts : length least ≡ length least₀
-  pub firsts : Firsts p num least i
-
-pub list_start : (p : ℕ → Bool) (num least : List ℕ) (n : ℕ) → ((v : ℕ) → v < length least → get_or least v 0 ≡ 0) → Listing p num least least n 0
-list_start p num least n b = record { most = omega arith; leasts = refl; firsts = firsts_none p num least b }
-
-module _ (p : ℕ → Bool) (num least₀ least : List ℕ) (n i : ℕ) (g : Listing p num least₀ least n i) (l : i < n) where
-  pub list_skip : p i ≡ false → Listing p num least₀ least n (i + 1)
-  list_skip e = record { most = omega arith; leasts = g.leasts; firsts = firsts_skip p num least i g.firsts e }
-
-  pub list_more : p i ≡ true → at num i < length least₀ → (least' : List ℕ) (v : ℕ) → v ≡ at num i → length least' ≡ length least → least' ≡ noted least v i → Listing p num least₀ least' n (i + 1)
-  list_more e k least' v a b c = record {
-    most = omega arith;
-    leasts = b ∙ g.leasts;
-    firsts = rw (c, a) (firsts_more p num least i g.firsts e (rw g.leasts k));
-  }
-
-pub list_end : (p : ℕ → Bool) (num least₀ least : List ℕ) (n i : ℕ) → Listing p num least₀ least n i → n ≤ i → Firsts p num least n
-list_end p num least₀ least n i g l = let e : i ≡ n = let a = g.most in omega arith in rw e at g.firsts
-
--- where an id is noted there is room for its number
-pub note_inside : (p : ℕ → Bool) (num least₁ least₀ least : List ℕ) (n i v : ℕ) → Inside num least₁ n → length least₀ ≡ length least₁ → Listing p num least₀ least n i → i < n → v ≡ at num i → (v < length least) × (i < 4096)
-note_inside p num least₁ least₀ least n i v w z g l e =
-    let a = w.inside i l in
-    let b = g.leasts in
-    let c = w.few in
-    (omega arith, omega arith)
-
 -- the loop that turns numbers into least ids
-pub record Lowering (num class least₀ least : List ℕ) (n i : ℕ) : Type 0 where
-  pub listing : Listing any_id num least₀ least n i
-  pub ids : length class ≡ length num
-  pub done : (j : ℕ) → j < i → some (at class j) ≡ least_with any_id num n (at num j)
+pub record Lowering (num class least : List ℕ) (n i : ℕ) : Type 0 where
+  pub firsts : Firsts any_id num least i
+  pub done : (j : ℕ) → j < i → Some (at class j) ≡ least_with any_id num n (at num j)
   pub rest : (j : ℕ) → i ≤ j → at class j ≡ at num j
 
-pub lower_start : (num least : List ℕ) (n : ℕ) → ((v : ℕ) → v < length least → get_or least v 0 ≡ 0) → Lowering num num least least n 0
-lower_start num least n b = record { listing = list_start any_id num least n b; ids = refl; done = λ j l. absurd (omega arith); rest = λ j l. refl }
+pub lower_start : (num least : List ℕ) (n : ℕ) → ((v : ℕ) → v < length least → get_or least v 0 ≡ 0) → Lowering num num least n 0
+lower_start num least n b = record { firsts = firsts_none any_id num least b; done = λ j l. absurd (omega arith); rest = λ j l. refl }
 
-module _ (num class least₁ least₀ least : List ℕ) (n i : ℕ) (w : Inside num least₁ n) (z : length least₀ ≡ length least₁) (g : Lowering num class least₀ least n i) (l : i < n) (least' : List ℕ) (same : length least' ≡ length least) (e : least' ≡ noted least (at class i) i) where
-  listed : Listing any_id num least₀ least' n (i + 1)
-  listed = list_more any_id num least₀ least n i g.listing l refl (let a = w.inside i l in omega arith) least' (at class i) (g.rest i (omega arith)) same e
+module _ (num class least₁ least : List ℕ) (n i : ℕ) (w : Inside num least₁ n) (z : length least ≡ length least₁) (ids : length class ≡ length num) (g : Lowering num class least n i) (l : i < n) (least' : List ℕ) (same : length least' ≡ length least) (e : least' ≡ noted least (at class i) i) where
+  listed : Firsts any_id num least' (i + 1)
+  listed = rw (e, g.rest i (omega arith)) (firsts_more any_id num least i g.firsts refl (let a = w.inside i l in omega arith))
 
-  lowest : (1 ≤ at least' (at class i)) × (some (at least' (at class i) - 1) ≡ least_with any_id num n (at num i))
+  lowest : (1 ≤ at least' (at class i)) × (Some (at least' (at class i) - 1) ≡ least_with any_id num n (at num i))
   unfolding least_with
   lowest =
       rw (g.rest i (omega arith))
-      (slot_some (λ k. any_id k && eqb (at num k) (at num i)) i n (at least' (at num i)) l (eq-eqb (at num i) (at num i) refl) (listed.firsts.each (at num i)))
-
-  pub lower_inside : at class i < length least'
-  lower_inside = let a = w.inside i l in let b = g.rest i (omega arith) in let c = g.listing.leasts in omega arith
+      (slot_some (λ k. any_id k && eqb (at num k) (at num i)) i n (at least' (at num i)) l (eq-eqb (at num i) (at num i) refl) (listed.each (at num i)))
 
   pub lower_some : 1 ≤ at least' (at class i)
   lower_some = lowest.0
 
-  pub lower_turn : Lowering num (set class i (at least' (at class i) - 1)) least₀ least' n (i + 1)
+  pub lower_turn : Lowering num (set class i (at least' (at class i) - 1)) least' n (i + 1)
   lower_turn =
       let x = at least' (at class i) - 1 in
-      let k : i < length class = let d = g.ids in let h = w.numbers in omega arith in
+      let k : i < length class = let h = w.numbers in omega arith in
       record {
-        listing = listed;
-        ids = length-set class i x ∙ g.ids;
+        firsts = listed;
         done = λ j a. ⊎_elim
             (λ q. rw q (rw (get_or-set_same class i x 0 k) lowest.1))
             (λ b. rw (get_or-set_other class i j x 0 (omega arith)) (g.done j b))
             (last_or j i (omega arith));
         rest = λ j a. get_or-set_other class i j x 0 (omega arith) ∙ g.rest j (omega arith);
       }
-
-pub lower_end : (num class least₀ least : List ℕ) (n i : ℕ) → Lowering num class least₀ least n i → n ≤ i → Lowered num class n
-lower_end num class least₀ least n i g l = record { each = λ j a. g.done j (omega arith) }

@@ -6,4 +6,3 @@ pub mod Firsts
 pub mod Shapes
 pub mod Agree
 pub mod Finding
-pub mod Unique

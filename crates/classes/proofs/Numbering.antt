@@ -6,7 +6,7 @@ use mathlib.Core.Bool.{Bool, true, false, not}
 use mathlib.Core.List.{List}
 use native.Mathlib.Omega.{arith}
 use lib.Dec.{eqb}
-use lib.ListN.{length, get_or, set}
+use lib.ListN.{length, set}
 use lib.Seq.{get_or-set_same, get_or-set_other}
 use borrow.Author.Tests.{eqb-true, eqb-false, not-false}
 use Rattle.layout.specs.declared.node.Expression.{Expression}
@@ -18,7 +18,7 @@ use Rattle.layout.proofs.Tests.{neither, either, is_false, last_or}
 use Rattle.layout.proofs.Lists.{clash}
 use Rattle.layout.proofs.Refusals.{accepts}
 use Rattle.layout.proofs.Valid.{valid_fits, valid_room, limit_top}
-use Rattle.classes.specs.Table.{count, place, entry}
+use Rattle.classes.specs.Table.{entry}
 use Rattle.classes.specs.Numbers.{over, key_of, Filed, Numbered, itself, Sized, Enterable, Entered, Orderly}
 
 -- a number put elsewhere than at an operand
@@ -34,20 +34,6 @@ over_keeps num i v (Input q) h = refl
 pub key_keeps : (num : List ℕ) (i v : ℕ) (e : Expression) → either_operand (eqb i) e ≡ false → key_of (set num i v) e ≡ key_of num e
 unfolding key_of
 key_keeps num i v e h = ap encode (over_keeps num i v e h)
-
-pub none_numbered : (m : List ℕ) (f : ℕ → ℕ) (num t : List ℕ) → ((j : ℕ) → j < 4094 → get_or t j 0 ≡ 0) → place 4096 + 5 ≤ length t → Numbered m f 0 num t
-none_numbered m f num t b l =
-    let c : count t ≡ 0 = b 0 (omega arith) in
-    record {
-      tabled = record {
-        room = rw c (omega arith);
-        distinct = λ u v i j. absurd (omega arith);
-        heads = λ h k. rw (c, b (1 + h) (omega arith)) (record { low = omega arith; bucket = λ n. absurd (n refl); skips = λ q i j. absurd (omega arith) });
-        links = λ v i j. absurd (omega arith);
-      };
-      few = omega arith;
-      filed = λ q k. absurd (omega arith);
-    }
 
 -- one more, which is no operand of itself and of those before it, nor one of them
 module _ (m : List ℕ) (f : ℕ → ℕ) (q : ℕ) (num t num' t' : List ℕ) (n : Numbered m f q num t) (g : Entered m num t num' t' (f q)) (here : f q < length num) (apart : (p : ℕ) → p ≤ q → either_operand (eqb (f q)) (expression_at m (f p)) ≡ false) (other : (p : ℕ) → p < q → f p ≢ f q) where
@@ -143,40 +129,6 @@ module _ (m order rank : List ℕ) (s : Sorted m order rank) where
         number = omega arith;
         roomy = record { tabled = n.tabled; more = omega arith };
       }
-
--- the loop over the order: its lists keep their lengths
-pub record Looping (m order num₀ t₀ num t : List ℕ) (q : ℕ) : Type 0 where
-  pub most : q ≤ used m
-  pub numbers : length num ≡ length num₀
-  pub keys : length t ≡ length t₀
-  pub numbered : Numbered m (at order) q num t
-
-module _ (m order rank num₀ t₀ t₁ : List ℕ) (o : Orderly m order rank num₀ t₀) (z : length t₁ ≡ length t₀) where
-  pub loop-start : ((j : ℕ) → j < 4094 → get_or t₁ j 0 ≡ 0) → Looping m order num₀ t₁ num₀ t₁ 0
-  loop-start b = record {
-    most = omega arith;
-    numbers = refl;
-    keys = refl;
-    numbered = none_numbered m (at order) num₀ t₁ b (rw z o.sized.keys);
-  }
-
-  module _ (num t : List ℕ) (q : ℕ) (g : Looping m order num₀ t₁ num t q) (l : q < used m) where
-    pub loop_enterable : Enterable m num t (at order q)
-    loop_enterable =
-        order_enterable m order rank o.sorted q num t o.circuit l
-        (record { numbers = rw g.numbers o.sized.numbers; keys = rw (g.keys, z) o.sized.keys })
-        g.numbered
-
-    pub loop-turn : (num' t' : List ℕ) → length num' ≡ length num → length t' ≡ length t → Entered m num t num' t' (at order q) → Looping m order num₀ t₁ num' t' (q + 1)
-    loop-turn num' t' a b e = record {
-      most = omega arith;
-      numbers = a ∙ g.numbers;
-      keys = b ∙ g.keys;
-      numbered = order_more m order rank o.sorted q num t num' t' l (let x = g.numbers in let y = o.sized.numbers in let r = valid_room m o.circuit in let s = limit_top m in omega arith) g.numbered e;
-    }
-
-  pub loop-end : (num t : List ℕ) (q : ℕ) → Looping m order num₀ t₁ num t q → used m ≤ q → Numbered m itself (used m) num t
-  loop-end num t q g l = order_all m order rank o.sorted q num t l g.most g.numbered
 
 -- what a check that accepts hands on
 pub checked_orderly : (m order rank num t : List ℕ) (answer : Bool) → Checked m order rank answer → not answer ≡ false → 4096 ≤ length order → Sized num t → Orderly m order rank num t

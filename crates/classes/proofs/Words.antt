@@ -1,10 +1,10 @@
 -- Lists of words that are the same, read as a test. Assumes nothing.
 use Prim.Native.Nat.{ℕ}
 use mathlib.Core.Path.{◌≡◌, refl, ap₂}
-use mathlib.Core.Bool.{Bool, true, false, ◌&&◌}
+use mathlib.Core.Bool.{true, false}
 use mathlib.Core.List.{List, [], ◌∷◌}
 use lib.Dec.{eqb}
-use borrow.Author.Tests.{eq-eqb, ne_eqb, eqb-true}
+use borrow.Author.Tests.{eq-eqb, eqb-true}
 use Rattle.layout.specs.Lists.{same_words}
 use Rattle.layout.proofs.Lists.{clash, and-true, and_both}
 
@@ -19,20 +19,3 @@ words_equal [] [] h = refl
 words_equal [] (y ∷ ys) h = clash false h refl
 words_equal (x ∷ xs) [] h = clash false h refl
 words_equal (x ∷ xs) (y ∷ ys) h = let (a, b) = and-true (eqb x y) (same_words xs ys) h in ap₂ ◌∷◌ (eqb-true x y a) (words_equal xs ys b)
-
--- the first word that differs decides
-pub word_differs : (x y : ℕ) (xs ys : List ℕ) → (x ≡ y → ⊥) → false ≡ same_words (x ∷ xs) (y ∷ ys)
-unfolding same_words
-word_differs x y xs ys n = rw (ne_eqb x y n)
-
-pub word_agrees : (x y : ℕ) (xs ys : List ℕ) (b : Bool) → x ≡ y → b ≡ same_words xs ys → b ≡ same_words (x ∷ xs) (y ∷ ys)
-unfolding same_words
-word_agrees x y xs ys b e h = rw (eq-eqb x y e, h)
-
-pub word_last : (x y : ℕ) → eqb x y ≡ same_words (x ∷ []) (y ∷ [])
-unfolding same_words
-word_last x y = go (eqb x y)
-  where
-    go : (b : Bool) → b ≡ (b && true)
-    go true = refl
-    go false = refl

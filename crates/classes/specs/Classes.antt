@@ -1,6 +1,5 @@
 -- Document 01, "Equality is by structure": a node's class is the least id of equal structure. Assumes nothing.
-use Rattle.std.specs.Prelude.{ℕ, Bool, false, List, [], ◌∷◌}
-use Rattle.std.proofs.Math.Option.{Option, none, some}
+use Rattle.std.specs.Prelude.{ℕ, Bool, false, List, [], ◌∷◌, Option, None, Some}
 use Rattle.layout.specs.Lists.{up_to, first}
 use Rattle.layout.specs.Words.{used}
 use Rattle.layout.specs.Tree.{tree, same}
@@ -9,8 +8,8 @@ use Rattle.layout.specs.Calls.{reading}
 
 -- what was found, else i itself
 abbrev pub or_itself : ℕ → Option ℕ → ℕ
-or_itself i none = i
-or_itself i (some j) = j
+or_itself i None = i
+or_itself i (Some j) = j
 
 -- the least id of equal structure
 unfoldable pub class_of : List ℕ → ℕ → ℕ

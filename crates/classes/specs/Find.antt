@@ -1,15 +1,11 @@
 -- The tables that go along with a circuit, and what a search in them gives. Assumes nothing.
-use Rattle.std.specs.Prelude.{ℕ, ◌-◌, ◌<◌, ◌≤◌, ◌≡◌, true, false, ◌&&◌, List, length, leb, eqb}
-use Rattle.std.proofs.Math.Option as option
-use Rattle.std.proofs.Math.Option.{Option, none}
+use Rattle.std.specs.Prelude.{ℕ, ◌-◌, ◌<◌, ◌≤◌, ◌≡◌, true, false, ◌&&◌, List, length, leb, eqb, Option}
 use Rattle.layout.specs.declared.node.Expression.{Expression}
 use Rattle.layout.specs.Lists.{up_to, first}
 use Rattle.layout.specs.Words.{used, expression_at, registered}
 use Rattle.layout.specs.NotCircuit.{not_circuit, either_operand}
 use Rattle.circuit.specs.Rank.{at}
 use Rattle.layout.specs.Tree.{tree, tree_of, same}
-use Rattle.classes.specs.declared.find.Place.{Place}
-use Rattle.classes.specs.declared.find.Place.TheVariants.{At, Nowhere}
 use Rattle.classes.specs.Classes.{class_of}
 use Rattle.classes.specs.Numbers.{itself, Numbered, Sized, Orderly}
 use Rattle.classes.specs.Least.{Firsts}
@@ -33,10 +29,6 @@ pub record Sorting (m class : List ℕ) : Type 0 where
 -- the least registered node that is equal to e by structure
 unfoldable pub least_equal : List ℕ → Expression → Option ℕ
 least_equal m e = first (λ i. registered m i && same (tree m i) (tree_of m e)) (up_to (used m))
-
-abbrev pub placed : Place → Option ℕ
-placed (At i) = option.some i
-placed Nowhere = none
 
 -- a circuit whose tables fit it, and an expression over its nodes
 pub record Findable (m num t least : List ℕ) (e : Expression) : Type 0 where

@@ -1,13 +1,12 @@
 -- Of each class number, the least id that has it, among all nodes or among the registered. Assumes nothing.
-use Rattle.std.specs.Prelude.{ℕ, zero, suc, ◌+◌, ◌<◌, ◌≤◌, ◌≡◌, Bool, true, ◌&&◌, List, length, set, eqb, if◌then◌else◌}
-use Rattle.std.proofs.Math.Option.{Option, none, some}
+use Rattle.std.specs.Prelude.{ℕ, zero, suc, ◌+◌, ◌<◌, ◌≤◌, ◌≡◌, Bool, true, ◌&&◌, List, length, set, eqb, if◌then◌else◌, Option, None, Some}
 use Rattle.layout.specs.Lists.{up_to, first}
 use Rattle.circuit.specs.Rank.{at}
 
 -- a word that stands for an id, or for none: i + 1 for i, 0 for none
 abbrev pub slot : ℕ → Option ℕ
-slot zero = none
-slot (suc i) = some i
+slot zero = None
+slot (suc i) = Some i
 
 -- the least of the first n ids that passes and has the number v
 unfoldable pub least_with : (ℕ → Bool) → List ℕ → ℕ → ℕ → Option ℕ
@@ -33,4 +32,4 @@ pub record Inside (num least : List ℕ) (n : ℕ) : Type 0 where
 
 -- each number became the least id that has it
 pub record Lowered (num class : List ℕ) (n : ℕ) : Type 0 where
-  pub each : (i : ℕ) → i < n → some (at class i) ≡ least_with any_id num n (at num i)
+  pub each : (i : ℕ) → i < n → Some (at class i) ≡ least_with any_id num n (at num i)

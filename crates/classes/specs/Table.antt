@@ -1,7 +1,7 @@
 -- A table of keys, each a list of four words, numbered from 1 in the order in which they came. Assumes nothing.
 --   Word 0: how many keys there are. Words 1 to 4,093: of each bucket the last number, or 0.
 --   Then five words a key: its four words, and the number before it in its bucket, or 0.
-use Rattle.std.specs.Prelude.{ℕ, suc, ◌+◌, ◌*◌, ◌%◌, ◌<◌, ◌≤◌, ◌≡◌, List, [], ◌∷◌, length, get_or}
+use Rattle.std.specs.Prelude.{ℕ, suc, ◌+◌, ◌*◌, ◌%◌, ◌<◌, ◌≤◌, ◌≡◌, List, [], ◌∷◌, length, get_or, Option, Some, None}
 use Rattle.circuit.specs.declared.place.FourWords.{FourWords}
 
 abbrev pub count : List ℕ → ℕ
@@ -43,10 +43,16 @@ pub record Tabled (t : List ℕ) : Type 0 where
   pub heads : (h : ℕ) → h < 4093 → Last t h (suc (count t)) (head t h)
   pub links : (v : ℕ) → 1 ≤ v → v ≤ count t → Last t (spread (entry t v)) v (link t v)
 
--- r is the number of key w, or 0 where it has none
-pub record Sought (t w : List ℕ) (r : ℕ) : Type 0 where
-  pub hit : (r ≡ 0 → ⊥) → (r ≤ count t) × (entry t r ≡ w)
-  pub miss : r ≡ 0 → (v : ℕ) → 1 ≤ v → v ≤ count t → entry t v ≡ w → ⊥
+-- v is the number of key w
+pub record Named (t w : List ℕ) (v : ℕ) : Type 0 where
+  pub low : 1 ≤ v
+  pub high : v ≤ count t
+  pub entered : entry t v ≡ w
+
+-- r is the number of key w, or none where it has none
+pub record Sought (t w : List ℕ) (r : Option ℕ) : Type 0 where
+  pub hit : (v : ℕ) → r ≡ Some v → Named t w v
+  pub miss : r ≡ None → (v : ℕ) → 1 ≤ v → v ≤ count t → entry t v ≡ w → ⊥
 
 -- there is room for one key more
 pub record Roomy (t : List ℕ) : Type 0 where

@@ -1,11 +1,12 @@
 // The class tables that go along with a circuit: a search is one lookup, and a node made adds one entry.
 ghost use Rattle.std.specs.Prelude.{◌≡◌};
 ghost use Rattle.layout.specs.Words.{used};
-ghost use Rattle.classes.specs.Find.{placed, least_equal, Classed, Fillable, Sorting, Findable, Joinable};
+ghost use Rattle.classes.specs.Find.{least_equal, Classed, Fillable, Sorting, Findable, Joinable};
 
 use crate::least::{least_ids, list_registered, note};
-use crate::numbers::{enter_one, key_of, number_all, number_at};
+use crate::numbers::{enter_one, key_of, number_all};
 use crate::table::seek;
+use circuit::place::entry;
 use layout::node::Expression;
 
 // The class of each node: the least id of equal structure. The table and the least ids are work of the call.
@@ -41,28 +42,14 @@ pub fn class_tables(
     list_registered(m, numbers, least);
 }
 
-// A node that was looked for.
-#[derive(Clone, Copy)]
-pub enum Place {
-    At(u64),
-    Nowhere,
-}
-
 // The least registered node that is equal to an expression by structure.
-pub fn find(m: &[u64], numbers: &[u64], table: &[u64], least: &[u64], e: Expression) -> Place
+pub fn find(m: &[u64], numbers: &[u64], table: &[u64], least: &[u64], e: Expression) -> Option<u64>
     requires { Findable m.now numbers.now table.now least.now e }
-    ensures { placed result ≡ least_equal m.now e }
+    ensures { result ≡ least_equal m.now e }
 {
-    let v = seek(table, key_of(numbers, e));
-    if v == 0 {
-        return Place::Nowhere;
-    }
-    let k = v as usize;
-    let i = least[k];
-    if i == 0 {
-        return Place::Nowhere;
-    }
-    Place::At(i - 1)
+    let v = seek(table, key_of(numbers, e))?;
+    // one more than the least id, or 0
+    least[v as usize].checked_sub(1)
 }
 
 // The last node, which was just made, joins the tables.
@@ -72,5 +59,5 @@ pub fn join(m: &[u64], numbers: &mut [u64], table: &mut [u64], least: &mut [u64]
 {
     let i = m[1] - 1;
     enter_one(m, i, numbers, table);
-    note(least, number_at(numbers, i), i);
+    note(least, entry(numbers, i), i);
 }

@@ -4,8 +4,8 @@ ghost use Rattle.layout.specs.Words.{used, offset, registered};
 ghost use Rattle.layout.specs.NotCircuit.{not_circuit};
 ghost use Rattle.classes.specs.Least.{noted, Firsts, Inside, Lowered};
 
-use crate::numbers::{blank, number_at};
-use circuit::place::node_at;
+use crate::numbers::blank;
+use circuit::place::{entry, node_at};
 
 // A least id for each of 4,096 numbers, which begin with 1.
 pub const LEAST: usize = 4097;
@@ -36,13 +36,10 @@ pub(crate) fn list_registered(m: &[u64], numbers: &[u64], least: &mut [u64])
     ensures { Firsts (registered m.now) numbers.now least.new (used m.now) }
 {
     blank(least, least.len());
-    let n = m[1];
-    let mut i: u64 = 0;
-    while i < n {
+    for i in 0..m[1] {
         if is_registered(m, i) {
-            note(least, number_at(numbers, i), i);
+            note(least, entry(numbers, i), i);
         }
-        i += 1;
     }
 }
 
@@ -52,13 +49,9 @@ pub(crate) fn least_ids(class: &mut [u64], least: &mut [u64], n: u64)
     ensures { Lowered class.old class.new n }
 {
     blank(least, least.len());
-    let mut i: u64 = 0;
-    while i < n {
-        let k = i as usize;
-        let v = class[k];
+    for i in 0..n {
+        let v = class[i as usize];
         note(least, v, i);
-        let j = v as usize;
-        class[k] = least[j] - 1;
-        i += 1;
+        class[i as usize] = least[v as usize] - 1;
     }
 }

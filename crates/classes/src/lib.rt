@@ -6,10 +6,3 @@ pub mod find;
 pub mod least;
 pub mod numbers;
 pub mod table;
-
-// Whether two nodes are equal by structure, or why that was not answered.
-#[derive(Clone, Copy)]
-pub enum Equal {
-    Answer(bool),
-    Refused(u64),
-}

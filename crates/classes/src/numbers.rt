@@ -1,27 +1,15 @@
 // Class numbers: nodes that are equal by structure have one number. Each node's key is its expression over its operands' numbers.
 ghost use Rattle.std.specs.Prelude.{◌≡◌, ℕ, ◌+◌, ◌<◌, ◌≤◌, length, get_or};
 ghost use Rattle.layout.specs.Words.{used};
-ghost use Rattle.circuit.specs.Rank.{at};
 ghost use Rattle.classes.specs.Table.{listed};
 ghost use Rattle.classes.specs.Numbers.{over, key_of, itself, Numbered, Enterable, Entered, Orderly};
 
 use crate::table::{HEADS, intern};
-use circuit::place::{FourWords, expression_at, words_of};
+use circuit::place::{FourWords, entry, expression_at, words_of};
 use layout::node::Expression;
 
 // A number for each of 4,096 nodes.
 pub const NUMBERS: usize = 4096;
-
-// The number of a node, 0 beyond the end.
-pub(crate) fn number_at(numbers: &[u64], i: u64) -> u64
-    ensures { result ≡ at numbers.now i }
-{
-    let k = i as usize;
-    if k < numbers.len() {
-        return numbers[k];
-    }
-    0
-}
 
 // An expression over its operands' numbers.
 fn over_numbers(numbers: &[u64], e: Expression) -> Expression
@@ -33,8 +21,8 @@ fn over_numbers(numbers: &[u64], e: Expression) -> Expression
         Expression::Challenge(k) => Expression::Challenge(k),
         Expression::Operation(o, l, r) => Expression::Operation(
             o,
-            number_at(numbers, l),
-            number_at(numbers, r),
+            entry(numbers, l),
+            entry(numbers, r),
         ),
         Expression::Input(q) => Expression::Input(q),
     }
@@ -64,11 +52,7 @@ pub(crate) fn blank(s: &mut [u64], n: usize)
     requires { n ≤ length s.old }
     ensures { (j : ℕ) → j < n → get_or s.new j 0 ≡ 0 }
 {
-    let mut i: usize = 0;
-    while i < n {
-        s[i] = 0;
-        i += 1;
-    }
+    s[..n].fill(0);
 }
 
 // Each node gets its number, after its operands. The rank is not read: that the order undoes it is what makes each node's turn come.
@@ -83,11 +67,7 @@ pub(crate) fn number_all(
     ensures { Numbered m.now itself (used m.now) numbers.new table.new }
 {
     blank(table, HEADS);
-    let n = m[1];
-    let mut q: u64 = 0;
-    while q < n {
-        let k = q as usize;
-        enter_one(m, order[k], numbers, table);
-        q += 1;
+    for q in 0..m[1] {
+        enter_one(m, order[q as usize], numbers, table);
     }
 }

@@ -34,16 +34,7 @@ fn bucket(w: FourWords) -> u64
 pub fn same_words(v: FourWords, w: FourWords) -> bool
     ensures { result ≡ same_words (listed v) (listed w) }
 {
-    if v.kind != w.kind {
-        return false;
-    }
-    if v.first != w.first {
-        return false;
-    }
-    if v.second != w.second {
-        return false;
-    }
-    v.third == w.third
+    v == w
 }
 
 // Whether w is the key of number v.
@@ -52,20 +43,14 @@ fn is_key(table: &[u64], v: u64, w: FourWords) -> bool
     ensures { result ≡ same_words (entry table.now v) (listed w) }
 {
     let at = FIRST + KEY * (v as usize);
-    if table[at] != w.kind {
-        return false;
-    }
-    if table[at + 1] != w.first {
-        return false;
-    }
-    if table[at + 2] != w.second {
-        return false;
-    }
-    table[at + 3] == w.third
+    table[at] == w.kind
+        && table[at + 1] == w.first
+        && table[at + 2] == w.second
+        && table[at + 3] == w.third
 }
 
-// The number of a key, or 0.
-pub(crate) fn seek(table: &[u64], w: FourWords) -> u64
+// The number of a key, if it has one.
+pub(crate) fn seek(table: &[u64], w: FourWords) -> Option<u64>
     requires { Tabled table.now }
     ensures { Sought table.now (listed w) result }
 {
@@ -73,12 +58,12 @@ pub(crate) fn seek(table: &[u64], w: FourWords) -> u64
     let mut v = table[h];
     while v != 0 {
         if is_key(table, v, w) {
-            return v;
+            return Some(v);
         }
         let at = FIRST + KEY * (v as usize);
         v = table[at + 4];
     }
-    0
+    None
 }
 
 // The words of key v, and the number before it in its bucket.
@@ -99,9 +84,8 @@ pub(crate) fn intern(table: &mut [u64], w: FourWords) -> u64
     requires { Roomy table.old }
     ensures { Interned table.old table.new (listed w) result }
 {
-    let r = seek(table, w);
-    if r != 0 {
-        return r;
+    if let Some(v) = seek(table, w) {
+        return v;
     }
     let h = 1 + bucket(w) as usize;
     let v = table[0] + 1;

@@ -4,7 +4,7 @@ use mathlib.Core.Path.{◌≡◌, refl, sym, ap, ◌∙◌}
 use mathlib.Core.List.{List, [], ◌∷◌, ◌++◌, append_assoc, append-nil}
 use native.Mathlib.Numerals.{add-one}
 use native.Mathlib.Omega.{arith}
-use lib.ListN.{length, set, take, replicate, replicate-append-replicate}
+use lib.ListN.{length, set, take}
 use lib.Seq.{take-suc-set}
 use Rattle.framing.specs.Digits.{number_at}
 use Rattle.desk.specs.Words.{words_at, row_at, rows_at}
@@ -28,9 +28,6 @@ unfolding words_at
 words_length zero after bs = refl
 words_length (suc n) after bs = omega (arith, words_length n (after + 8) bs)
 
-zeros_more : (k : ℕ) → replicate {A = ℕ} (k + 1) 0 ≡ replicate k 0 ++ (0 ∷ [])
-zeros_more k = sym (replicate-append-replicate {A = ℕ} k 1 0)
-
 -- a table before, and from a place on; and what stands there now
 pub none_stored : (table : List ℕ) (at : ℕ) → Stored table at 0 [] table
 none_stored table at =
@@ -52,9 +49,6 @@ pub word_stored : (before table : List ℕ) (at k after : ℕ) (bs : List ℕ) (
 word_stored before table at k after bs w so_far h is =
     let e : words_at k after bs ++ (w ∷ []) ≡ words_at (k + 1) after bs = ap (λ (q : ℕ). words_at k after bs ++ (q ∷ [])) is ∙ sym (words_more k after bs) in
     rw e at (one_stored before table at k (words_at k after bs) w so_far h)
-
-pub zero_stored : (before table : List ℕ) (at k : ℕ) → Stored before at k (replicate k 0) table → at + k < length table → Stored before at (k + 1) (replicate (k + 1) 0) (set table (at + k) 0)
-zero_stored before table at k so_far h = rw (sym (zeros_more k)) at (one_stored before table at k (replicate k 0) 0 so_far h)
 
 -- all, where the count is reached
 pub all_stored : (f : ℕ → List ℕ) (before table : List ℕ) (at k n : ℕ) → Stored before at k (f k) table → k ≤ n → n ≤ k → Stored before at n (f n) table

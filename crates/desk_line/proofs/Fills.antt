@@ -1,5 +1,5 @@
 -- Laws of a row that is filled, and of its answer. Assumes nothing.
-use Rattle.std.specs.Prelude.{if◌then◌else◌}
+use Rattle.std.specs.Prelude.{if◌then◌else◌, Result, Ok, Err}
 use Prim.Native.Nat.{ℕ, zero, suc, ◌+◌, ◌-◌, ◌*◌, ◌≤◌}
 use mathlib.Core.Path.{◌≡◌, refl, sym, ap, ◌∙◌}
 use mathlib.Core.Bool.{Bool, true, false}
@@ -15,8 +15,8 @@ use Rattle.framing.specs.Digits.{bytes_of, hexadecimal}
 use Rattle.framing.specs.States.{lent}
 use Rattle.frame.specs.Puts.{Put}
 use Rattle.frame.proofs.Writing.{put_then, length_hexadecimal}
-use Rattle.filling.specs.declared.Filled.{Filled}
-use Rattle.filling.specs.declared.Filled.TheVariants as filled
+use Rattle.layout.specs.declared.refusal.Refusal.{Refusal}
+use Rattle.layout.specs.Answers.{answer_number}
 use Rattle.filling.specs.Answers.{told_fill}
 use Rattle.filling.specs.Tables.{element_words}
 use Rattle.filling.specs.Promise.{new_main, new_aux}
@@ -26,18 +26,18 @@ use Rattle.desk.specs.Words.{eights}
 use Rattle.desk.specs.Desks.{Desk, desk}
 use Rattle.desk.specs.Lines.{rows_given, main_rows, aux_rows, fill_of, fill_bytes, row_refusal, row_answer}
 use Rattle.desk_line.specs.Reading.{Stored, OneOrTwo}
-use Rattle.desk_line.specs.Rows.{Narrow, main_words, aux_words, fill_number, filled_as, TablesFilled}
+use Rattle.desk_line.specs.Rows.{Narrow, main_words, aux_words, filled_as, TablesFilled}
 use Rattle.desk_line.proofs.Cells.{stored_front}
 use Rattle.desk_line.proofs.Texts.{words_text, words_append, length_eights, length_words}
 use Rattle.desk_line.proofs.Widths.{at_most_two, at_least_one, rows_given_lem, row_narrow}
 
 -- a fill's number, and its tables
-told_parts : (r : Filled) (t : List ℕ × List ℕ) (o : Outcome (Unit {0}) (List ℕ × List ℕ)) → told_fill r t ≡ o → (fill_number r ≡ o.number) × (t ≡ o.lent)
-told_parts filled.Done t o e = (ap (λ (q : Outcome (Unit {0}) (List ℕ × List ℕ)). q.number) e, ap (λ (q : Outcome (Unit {0}) (List ℕ × List ℕ)). q.lent) e)
-told_parts (filled.Refused k) t o e = (ap (λ (q : Outcome (Unit {0}) (List ℕ × List ℕ)). q.number) e, ap (λ (q : Outcome (Unit {0}) (List ℕ × List ℕ)). q.lent) e)
+told_parts : (r : Result (Unit {0}) Refusal) (t : List ℕ × List ℕ) (o : Outcome (Unit {0}) (List ℕ × List ℕ)) → told_fill r t ≡ o → (answer_number r ≡ o.number) × (t ≡ o.lent)
+told_parts (Ok u) t o e = (ap (λ (q : Outcome (Unit {0}) (List ℕ × List ℕ)). q.number) e, ap (λ (q : Outcome (Unit {0}) (List ℕ × List ℕ)). q.lent) e)
+told_parts (Err k) t o e = (ap (λ (q : Outcome (Unit {0}) (List ℕ × List ℕ)). q.number) e, ap (λ (q : Outcome (Unit {0}) (List ℕ × List ℕ)). q.lent) e)
 
 -- the front of a table was lent
-pub tables_filled : (o : Outcome (Unit {0}) (List ℕ × List ℕ)) (r : Filled) (n w v : ℕ) (main aux main' aux' : List ℕ) → n ≡ fill_number r → told_fill r (main', aux') ≡ o → take w main ≡ main' → take v aux ≡ aux' → TablesFilled o n w v main aux
+pub tables_filled : (o : Outcome (Unit {0}) (List ℕ × List ℕ)) (r : Result (Unit {0}) Refusal) (n w v : ℕ) (main aux main' aux' : List ℕ) → n ≡ answer_number r → told_fill r (main', aux') ≡ o → take w main ≡ main' → take v aux ≡ aux' → TablesFilled o n w v main aux
 tables_filled o r n w v main aux main' aux' is e f g =
     let t = told_parts r (main', aux') o e in
     record {
@@ -85,10 +85,10 @@ module _ (l : Latest) (n : ℕ) (main aux : List ℕ) where
   row_put z xs ys e f p q r = rw (eq-eqb n 0 z, ← e, ← f, words_append xs ys) (put_then p (put_then q r))
 
 -- the lists' places that count, and the front of each table
-module _ (l : Latest) (m main aux challenges row_main row_aux : List ℕ) (K a b w v n : ℕ) (r : Filled) (main' aux' : List ℕ)
+module _ (l : Latest) (m main aux challenges row_main row_aux : List ℕ) (K a b w v n : ℕ) (r : Result (Unit {0}) Refusal) (main' aux' : List ℕ)
     (kind : K ≡ row_kind m) (mains : take a main ≡ take l.mains main) (auxs : take b aux ≡ take l.auxs aux)
     (mains_wide : w ≡ K * (l.main_count + l.mains)) (auxs_wide : v ≡ K * (element_words * l.aux_count + element_words * l.auxs))
-    (number : n ≡ fill_number r) (main_length : length main' ≡ w) (aux_length : length aux' ≡ v) where
+    (number : n ≡ answer_number r) (main_length : length main' ≡ w) (aux_length : length aux' ≡ v) where
   abbrev W : ℕ
   W = main_words l (row_kind m)
 

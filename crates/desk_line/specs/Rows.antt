@@ -2,8 +2,6 @@
 use Rattle.std.specs.Prelude.{ℕ, ◌+◌, ◌*◌, ◌≤◌, ◌≡◌, List, length, take}
 use Rattle.layout.specs.Words.{row_kind}
 use Rattle.layout.specs.Outcomes.{Outcome}
-use Rattle.filling.specs.declared.Filled.{Filled}
-use Rattle.filling.specs.declared.Filled.TheVariants as filled
 use Rattle.filling.specs.Tables.{element_words}
 use Rattle.desk.specs.declared.Latest.{Latest}
 use Rattle.desk_line.specs.Reading.{OneOrTwo}
@@ -29,11 +27,6 @@ main_words l rows = rows * (l.main_count + l.mains)
 
 abbrev pub aux_words : Latest → ℕ → ℕ
 aux_words l rows = rows * (element_words * l.aux_count + element_words * l.auxs)
-
--- the number of a fill's answer
-abbrev pub fill_number : Filled → ℕ
-fill_number filled.Done = 0
-fill_number (filled.Refused k) = k
 
 -- a number, and tables
 abbrev pub filled_as : ℕ → List ℕ → List ℕ → Outcome (Unit {0}) (List ℕ × List ℕ)

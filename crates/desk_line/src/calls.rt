@@ -17,6 +17,7 @@ use frame::request::read;
 use frame::respond::kind_of;
 use framing::{Reply, Request};
 use kept::respond::respond;
+use layout::refusal::number;
 
 const LINE_FEED: u8 = 10;
 
@@ -136,7 +137,7 @@ fn challenges_line(challenges: &mut [u64], given: usize, line: &[u8], answer: &m
     ensures { ((s : State) (l : Latest) → desked result.written (desk s l (take result.words challenges.new)) answer.new ≡ desked_by (challenges_told (desk s l (take given challenges.old)) line.now) answer.old) × (result.words ≤ 3072) }
 {
     let g = give(challenges, given, line);
-    let next = put_byte(answer, 0, g.number);
+    let next = put_byte(answer, 0, number(g.answer));
     let written = put(answer, next, LINE_FEED);
     Kept {
         written,

@@ -1,6 +1,7 @@
 // A row of a line, and its new cells.
 ghost use Rattle.std.specs.Prelude.{◌≡◌, List, ℕ, ◌+◌, ◌*◌, ◌≤◌, length, take};
 ghost use Rattle.layout.specs.Words.{row_kind};
+ghost use Rattle.layout.specs.Answers.{answer_number};
 ghost use Rattle.framing.specs.Digits.{bytes_of, hexadecimal};
 ghost use Rattle.framing.specs.States.{lent};
 ghost use Rattle.frame.specs.Puts.{Put};
@@ -8,16 +9,15 @@ ghost use Rattle.filling.specs.Calls.{fill_call};
 ghost use Rattle.desk.specs.Desks.{desk};
 ghost use Rattle.desk.specs.Lines.{too_many, too_wide, row_bytes, is_rows, main_rows, aux_rows, row_refusal, row_answer, fill_bytes};
 ghost use Rattle.desk_line.specs.Reading.{Stored, OneOrTwo};
-ghost use Rattle.desk_line.specs.Rows.{Narrow, Places, Rowable, main_words, aux_words, fill_number, filled_as, TablesFilled};
+ghost use Rattle.desk_line.specs.Rows.{Narrow, Places, Rowable, main_words, aux_words, filled_as, TablesFilled};
 
 use crate::words::{put_words, read_rows};
 use desk::Latest;
 use filler::calls::fill;
-use filling::Filled;
 use frame::digits::all_digits;
 use frame::reply::put_byte;
 use frame::respond::kind_of;
-use layout::refusal::{FRAME, NO_ROOM};
+use layout::refusal::{Refusal, number};
 
 const MOST: u64 = 1024;
 
@@ -70,20 +70,20 @@ fn is_rows(latest: Latest, rows: u64, line: &[u8]) -> bool
     line.len() as u64 == 2 * (1 + bytes)
 }
 
-fn row_refusal(latest: Latest, rows: u64, line: &[u8]) -> u64
+fn row_refusal(latest: Latest, rows: u64, line: &[u8]) -> Result<(), Refusal>
     requires { OneOrTwo rows }
-    ensures { result ≡ row_refusal latest rows line.now }
+    ensures { answer_number result ≡ row_refusal latest rows line.now }
 {
     if !latest.lowered {
-        return FRAME;
+        return Err(Refusal::Frame);
     }
     if too_wide(latest) {
-        return NO_ROOM;
+        return Err(Refusal::NoRoom);
     }
     if is_rows(latest, rows, line) {
-        return 0;
+        return Ok(());
     }
-    FRAME
+    Err(Refusal::Frame)
 }
 
 // The tables that fill is asked with.
@@ -97,15 +97,6 @@ fn read_tables(latest: Latest, rows: u64, line: &[u8], row_main: &mut [u64], row
     let olds = 3 * latest.aux_count as usize;
     let news = 3 * latest.auxs as usize;
     read_rows(row_aux, line, olds, news, 1 + 8 * old, step, rows);
-}
-
-fn number_of(filled: Filled) -> u64
-    ensures { result ≡ fill_number filled }
-{
-    match filled {
-        Filled::Done => 0,
-        Filled::Refused(k) => k,
-    }
 }
 
 // How many places of a list count.
@@ -136,7 +127,7 @@ fn fill_tables(
     let b = listed(latest.auxs, aux);
     let w = in_rows(rows, latest.main_count + latest.mains) as usize;
     let v = in_rows(rows, 3 * latest.aux_count + 3 * latest.auxs) as usize;
-    number_of(fill(
+    number(fill(
         m,
         &main[..a],
         &aux[..b],
@@ -180,9 +171,8 @@ pub(crate) fn put_answer(
     ensures { (roots : List ℕ) → Put answer.old 0 (hexadecimal (row_answer (desk (lent m.now roots main.now aux.now) latest challenges.now) line.now)) answer.new result }
 {
     let rows = kind_of(m);
-    let n = row_refusal(latest, rows, line);
-    if n != 0 {
-        return put_byte(answer, 0, n);
+    if let Err(r) = row_refusal(latest, rows, line) {
+        return put_byte(answer, 0, u64::from(r));
     }
     read_tables(latest, rows, line, row_main, row_aux);
     let filled = fill_tables(m, main, aux, latest, challenges, row_main, row_aux);

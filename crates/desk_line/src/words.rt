@@ -13,10 +13,8 @@ pub(crate) fn read_words(table: &mut [u64], at: usize, line: &[u8], after: usize
     requires { Readable table.old at after n }
     ensures { Stored table.old at n (words_at n after (bytes_of line.now)) table.new }
 {
-    let mut k: usize = 0;
-    while k < n {
+    for k in 0..n {
         table[at + k] = number(line, 8, after + 8 * k);
-        k += 1;
     }
 }
 
@@ -25,11 +23,7 @@ fn clear(table: &mut [u64], at: usize, n: usize)
     requires { at + n ≤ length table.old }
     ensures { Stored table.old at n (replicate n 0) table.new }
 {
-    let mut k: usize = 0;
-    while k < n {
-        table[at + k] = 0;
-        k += 1;
-    }
+    table[at..at + n].fill(0);
 }
 
 // A row: its words, and zeros in the new cells.
@@ -84,10 +78,8 @@ pub(crate) fn put_words(answer: &mut [u8], at: usize, words: &[u64]) -> usize
     ensures { Put answer.old at (hexadecimal (eights words.now)) answer.new result }
 {
     let mut next = at;
-    let mut k: usize = 0;
-    while k < words.len() {
-        next = put_eight(answer, next, words[k]);
-        k += 1;
+    for &w in words {
+        next = put_eight(answer, next, w);
     }
     next
 }

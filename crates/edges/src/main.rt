@@ -1,17 +1,15 @@
 // Document 01's edges that are run: 4,096 nodes fit and one more is FULL, columns and challenges up to 65,535, a target of 2, a column count that is
 // just enough, and the bounds of degrees and of path counts. Says what each call answers: the id, the counts, the degree, or the number of the refusal.
+// An answer that is let go is of a node whose id is known; were it refused, what is said afterwards would show it.
 #![tactic(auto)]
 
 use build_calls::calls::{base_constant, challenge, input, negate, operation, subtract, sum};
-use building::Answer;
 use circuit::calls::{free, read, start, used};
-use layout::answer::{Counted, NodeRead, Started};
 use layout::node::{Op, Position, RowKind};
+use layout::refusal::Refusal;
 use lower::calls::lower;
-use lowering::Lowered;
 use paths::references::count_references;
 use read::degree::degree;
-use reading::answer::Degree;
 use std::io;
 
 // 4,096 places, and one more that no circuit uses.
@@ -21,20 +19,20 @@ fn say(rt: &impl Print, what: &str, n: u64) -> io::Result<()> {
     print!(rt; "{what}{n}")
 }
 
-fn say_answer(rt: &impl Print, what: &str, a: Answer) -> io::Result<()> {
+fn say_answer(rt: &impl Print, what: &str, a: Result<u64, Refusal>) -> io::Result<()> {
     print!(rt; "{what}")?;
     match a {
-        Answer::Id(i) => say(rt, "id ", i)?,
-        Answer::Refused(n) => say(rt, "refused ", n)?,
+        Ok(i) => say(rt, "id ", i)?,
+        Err(r) => say(rt, "refused ", u64::from(r))?,
     }
     println!(rt; "")
 }
 
-fn say_count(rt: &impl Print, what: &str, c: Counted) -> io::Result<()> {
+fn say_count(rt: &impl Print, what: &str, c: Result<u64, Refusal>) -> io::Result<()> {
     print!(rt; "{what}")?;
     match c {
-        Counted::Count(n) => say(rt, "", n)?,
-        Counted::Refused(n) => say(rt, "refused ", n)?,
+        Ok(n) => say(rt, "", n)?,
+        Err(r) => say(rt, "refused ", u64::from(r))?,
     }
     println!(rt; "")
 }
@@ -44,28 +42,26 @@ fn say_counts(rt: &impl Print, a: u64, b: u64) -> io::Result<()> {
     say(rt, ", auxiliary ", b)
 }
 
-fn say_lowered(rt: &impl Print, what: &str, l: Lowered) -> io::Result<()> {
+fn say_lowered(rt: &impl Print, what: &str, l: Result<(u64, u64), Refusal>) -> io::Result<()> {
     print!(rt; "{what}")?;
     match l {
-        Lowered::Counts(a, b) => say_counts(rt, a, b)?,
-        Lowered::Refused(n) => say(rt, "refused ", n)?,
+        Ok((a, b)) => say_counts(rt, a, b)?,
+        Err(r) => say(rt, "refused ", u64::from(r))?,
     }
     println!(rt; "")
 }
 
-fn say_started(rt: &impl Print, s: Started) -> io::Result<()> {
+fn say_started(rt: &impl Print, s: Result<(), Refusal>) -> io::Result<()> {
     match s {
-        Started::Fresh => Ok(()),
-        Started::Refused(n) => say(rt, "start refused ", n),
+        Ok(()) => Ok(()),
+        Err(r) => say(rt, "start refused ", u64::from(r)),
     }
 }
 
 // The first columns, up to so many: each a node.
 fn fill(m: &mut [u64], n: u64) {
-    let mut k: u64 = 0;
-    while k < n {
-        input(m, Position::Main(k));
-        k += 1;
+    for k in 0..n {
+        let _ = input(m, Position::Main(k));
     }
 }
 
@@ -172,9 +168,9 @@ fn lowering(rt: &impl Print, what: &str, target: u64, count: u64) -> io::Result<
     let mut main = [0u64; 4];
     let mut aux = [0u64; 4];
     say_started(rt, start(&mut m, RowKind::Single))?;
-    input(&mut m, Position::Main(0));
-    operation(&mut m, Op::Multiply, 0, 0);
-    operation(&mut m, Op::Multiply, 1, 1);
+    let _ = input(&mut m, Position::Main(0));
+    let _ = operation(&mut m, Op::Multiply, 0, 0);
+    let _ = operation(&mut m, Op::Multiply, 1, 1);
     say_lowered(
         rt,
         what,
@@ -182,29 +178,18 @@ fn lowering(rt: &impl Print, what: &str, target: u64, count: u64) -> io::Result<
     )
 }
 
-fn id_of(a: Answer) -> u64 {
-    match a {
-        Answer::Id(i) => i,
-        Answer::Refused(_) => 0,
-    }
-}
-
 // From node k up to n, the next node is node k, twice.
 fn double(m: &mut [u64], o: Op, first: u64, n: u64) {
-    let mut k = first;
-    while k < n {
-        operation(m, o, k, k);
-        k += 1;
+    for k in first..n {
+        let _ = operation(m, o, k, k);
     }
 }
 
 // All of these nodes together, the first up to the n-th: 1 + 2 + 4 + .. times the first.
 fn join(m: &mut [u64], o: Op, n: u64) -> u64 {
     let mut all: u64 = 0;
-    let mut k: u64 = 0;
-    while k < n {
-        k += 1;
-        all = id_of(operation(m, o, all, k));
+    for k in 1..=n {
+        all = operation(m, o, all, k).unwrap_or(0);
     }
     all
 }
@@ -218,11 +203,11 @@ fn say_equal(rt: &impl Print, n: i64, right: i64) -> io::Result<()> {
     }
 }
 
-fn say_degree(rt: &impl Print, what: &str, d: Degree, right: i64) -> io::Result<()> {
+fn say_degree(rt: &impl Print, what: &str, d: Result<i64, Refusal>, right: i64) -> io::Result<()> {
     print!(rt; "{what}")?;
     match d {
-        Degree::Found(n) => say_equal(rt, n, right)?,
-        Degree::Refused(n) => say(rt, "refused ", n)?,
+        Ok(n) => say_equal(rt, n, right)?,
+        Err(r) => say(rt, "refused ", u64::from(r))?,
     }
     println!(rt; "")
 }
@@ -231,27 +216,20 @@ fn say_degree(rt: &impl Print, what: &str, d: Degree, right: i64) -> io::Result<
 fn degrees(rt: &impl Print) -> io::Result<()> {
     let mut m = [0u64; 512];
     say_started(rt, start(&mut m, RowKind::Single))?;
-    input(&mut m, Position::Main(0));
+    let _ = input(&mut m, Position::Main(0));
     double(&mut m, Op::Multiply, 0, 30);
     let top = join(&mut m, Op::Multiply, 30);
     say_degree(rt, "degree 2,147,483,647: ", degree(&m, top), 2147483647)?;
-    let over = id_of(operation(&mut m, Op::Multiply, top, 0));
+    let over = operation(&mut m, Op::Multiply, top, 0).unwrap_or(0);
     say_degree(rt, "degree 2,147,483,648: ", degree(&m, over), 2147483648)
-}
-
-fn references_of(n: NodeRead) -> u64 {
-    match n {
-        NodeRead::Found(node) => node.references,
-        NodeRead::Refused(_) => 0,
-    }
 }
 
 // The paths from the roots to node 0, counted.
 fn say_paths(rt: &impl Print, what: &str, m: &mut [u64], roots: &[u64]) -> io::Result<()> {
     print!(rt; "{what}")?;
     match count_references(m, roots) {
-        walking::Counted::Written => say(rt, "", references_of(read(m, 0)))?,
-        walking::Counted::Refused(n) => say(rt, "refused ", n)?,
+        Ok(()) => say(rt, "", read(m, 0).map_or(0, |n| n.references))?,
+        Err(r) => say(rt, "refused ", u64::from(r))?,
     }
     println!(rt; "")
 }
@@ -260,11 +238,11 @@ fn say_paths(rt: &impl Print, what: &str, m: &mut [u64], roots: &[u64]) -> io::R
 fn paths(rt: &impl Print) -> io::Result<()> {
     let mut m = [0u64; 512];
     say_started(rt, start(&mut m, RowKind::Single))?;
-    input(&mut m, Position::Main(0));
+    let _ = input(&mut m, Position::Main(0));
     double(&mut m, Op::Add, 0, 31);
     let top = join(&mut m, Op::Add, 31);
     say_paths(rt, "4,294,967,295 paths: ", &mut m, &[top])?;
-    let over = id_of(operation(&mut m, Op::Add, top, 0));
+    let over = operation(&mut m, Op::Add, top, 0).unwrap_or(0);
     say_paths(rt, "4,294,967,296 paths: ", &mut m, &[over])?;
     say_paths(rt, "the same root twice: ", &mut m, &[over, over])
 }
@@ -279,12 +257,12 @@ fn say_lowering(rt: &impl Print, what: &str, m: &mut [u64], roots: &mut [u64]) -
 fn occurrences(rt: &impl Print) -> io::Result<()> {
     let mut m = [0u64; 1024];
     say_started(rt, start(&mut m, RowKind::Single))?;
-    input(&mut m, Position::Main(0));
-    operation(&mut m, Op::Multiply, 0, 0);
-    operation(&mut m, Op::Multiply, 1, 0);
+    let _ = input(&mut m, Position::Main(0));
+    let _ = operation(&mut m, Op::Multiply, 0, 0);
+    let _ = operation(&mut m, Op::Multiply, 1, 0);
     double(&mut m, Op::Add, 2, 33);
-    let y = id_of(input(&mut m, Position::Main(1)));
-    let other = id_of(operation(&mut m, Op::Multiply, 1, y));
+    let y = input(&mut m, Position::Main(1)).unwrap_or(0);
+    let other = operation(&mut m, Op::Multiply, 1, y).unwrap_or(0);
     say_lowering(rt, "4,294,967,296 occurrences: ", &mut m, &mut [33, other])?;
     say_lowering(rt, "4,294,967,295 occurrences: ", &mut m, &mut [33])
 }

@@ -10,6 +10,9 @@ use std::num::{wrapping_add_u64, wrapping_sub_u64};
 
 pub const P: u64 = 18446744069414584321;
 
+// -1
+pub const MINUS_ONE: u64 = P - 1;
+
 // 2^64 modulo p: what a sum that wrapped has missed, and what a difference that wrapped has too much.
 const MISSED: u64 = 4294967295;
 

@@ -5,7 +5,7 @@ ghost use Rattle.arithmetic.specs.Unlift.{unlift};
 
 use super::base;
 use super::base::{difference, sum, three_products, two_products};
-use arithmetic::{Triple, Unlifted};
+use arithmetic::Triple;
 
 // The test for an element of the extension: each word is its own remainder.
 pub fn is_canonical(a: Triple) -> bool
@@ -30,14 +30,10 @@ pub fn unlifts(a: Triple) -> bool
     (a.c1 == 0) & (a.c2 == 0)
 }
 
-pub fn unlift(a: Triple) -> Unlifted
+pub fn unlift(a: Triple) -> Option<u64>
     ensures { result ≡ unlift a }
 {
-    if unlifts(a) {
-        Unlifted::Word(a.c0)
-    } else {
-        Unlifted::Nothing
-    }
+    if unlifts(a) { Some(a.c0) } else { None }
 }
 
 // Equality, word by word. All words are compared, here and in the tests above, so that nothing branches on them.

@@ -24,12 +24,10 @@ pub extern "C" fn field_chain(a: u64, b: u64, n: u64) -> u64
 {
     let mut x = a;
     let mut y = b;
-    let mut k = n;
-    while k > 0 {
+    for _ in 0..n {
         let z = base::multiply(x, y);
         x = y;
         y = z;
-        k -= 1;
     }
     x
 }
@@ -57,12 +55,10 @@ pub extern "C" fn field_triple_chain(
         c1: b1,
         c2: b2,
     };
-    let mut k = n;
-    while k > 0 {
+    for _ in 0..n {
         let z = extension::multiply(x, y);
         x = y;
         y = z;
-        k -= 1;
     }
     x.c0
 }

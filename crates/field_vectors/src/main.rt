@@ -4,7 +4,7 @@
 
 ghost use Rattle.std.specs.Prelude.{◌+◌, ◌<◌, ◌≤◌, length};
 
-use arithmetic::{Triple, Unlifted};
+use arithmetic::Triple;
 use field::{base, extension};
 use inputs::read_full;
 use std::io;
@@ -73,21 +73,17 @@ fn by_place(op: u8, x: Triple, y: Triple) -> Triple {
 fn bit(b: bool) -> u64
     ensures { result ≤ 1 }
 {
-    if b { 1 } else { 0 }
+    u64::from(b)
 }
 
 fn tests(x: Triple, y: Triple) -> Triple {
     let flags = bit(extension::is_canonical(x))
         + 2 * bit(extension::unlifts(x))
         + 4 * bit(extension::equal(x, y));
-    let unlifted = extension::unlift(x);
     let lifted = extension::lift(x.c0);
     Triple {
         c0: flags,
-        c1: match unlifted {
-            Unlifted::Word(w) => w,
-            Unlifted::Nothing => 0,
-        },
+        c1: extension::unlift(x).unwrap_or(0),
         c2: lifted.c0,
     }
 }
@@ -116,17 +112,15 @@ fn agrees(op: u8, x: Triple, y: Triple, r: Triple) -> bool {
 // The whole records of a part of the input, added to the tally.
 fn compare(s: &[u8], before: Tally) -> Tally {
     let mut tally = before;
-    let mut at = 0;
-    while s.len() - at >= RECORD {
-        let x = triple(s, at + 1);
-        let y = triple(s, at + 49);
-        let r = triple(s, at + 97);
-        let right = agrees(s[at], x, y, r);
+    for record in s.chunks_exact(RECORD) {
+        let x = triple(record, 1);
+        let y = triple(record, 49);
+        let r = triple(record, 97);
+        let right = agrees(record[0], x, y, r);
         tally.compared = std::num::wrapping_add_u32(tally.compared, 1);
         if !right {
             tally.disagree = std::num::wrapping_add_u32(tally.disagree, 1);
         }
-        at += RECORD;
     }
     tally
 }
@@ -139,11 +133,12 @@ fn main(rt: HostRuntime) -> io::Result<()> {
     let mut input = rt.stdin();
     let mut part = [0u8; PART];
     // A proved loop has to end, and nothing says that the input does.
-    let mut turns: u32 = 1000;
-    while turns > 0 {
+    for _ in 0..1000 {
         let n = read_full(&mut input, &mut part)?;
         tally = compare(&part[..n], tally);
-        turns = if n < PART { 0 } else { turns - 1 };
+        if n < PART {
+            break;
+        }
     }
     let Tally { compared, disagree } = tally;
     println!(rt; "{compared} compared, {disagree} disagree")

@@ -1,8 +1,8 @@
 -- The test of both lists: the main one, then the auxiliary one. Assumes nothing.
+use Rattle.std.specs.Prelude.{Some}
 use Prim.Native.Nat.{ℕ, ◌+◌, ◌≤◌}
 use mathlib.Core.Path.{◌≡◌, refl, sym, ap, ◌∙◌}
 use mathlib.Core.Bool.{Bool, true, false}
-use mathlib.Core.Option.{some}
 use mathlib.Core.List.{List}
 use native.Mathlib.Omega.{arith}
 use lib.ListN.{length}
@@ -58,7 +58,7 @@ module _ {main_count aux_count : ℕ} {m order rank mains auxs bases targets : L
                 let n = first.few passes in
                 let k = then.few h in
                 record {
-                  of_main = λ j l. first.found passes j l ∙ ap some (ap (at targets₁) (let e : 0 + j ≡ j = omega arith in e) ∙ sym (then.kept j l));
+                  of_main = λ j l. first.found passes j l ∙ ap Some (ap (at targets₁) (let e : 0 + j ≡ j = omega arith in e) ∙ sym (then.kept j l));
                   of_aux = then.found h;
                   few = omega arith;
                 };

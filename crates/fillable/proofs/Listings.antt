@@ -1,8 +1,8 @@
 -- The test of one list: its items one after the other, whose expressions are kept. Assumes nothing.
+use Rattle.std.specs.Prelude.{Option, None, Some}
 use Prim.Native.Nat.{ℕ, zero, suc, ◌+◌, ◌<◌, ◌≤◌}
 use mathlib.Core.Path.{◌≡◌, refl, sym, ap, ◌∙◌}
 use mathlib.Core.Bool.{Bool, true, false, ◌||◌}
-use mathlib.Core.Option.{Option, none, some}
 use mathlib.Core.List.{List, [], ◌∷◌}
 use native.Mathlib.Omega.{arith}
 use borrow.Author.Count.{below_more}
@@ -60,16 +60,16 @@ unfolding mains_wrong whether
 mains_itemwise b m = record { at_none = λ c. refl; at_item = λ c q qs. ap (λ (t : Bool). t || mains_wrong b m (suc c) qs) (go c (expression_of m (Main c) q)) }
   where
     go : (c : ℕ) (o : Option ℕ) → wrong_main c b m o ≡ whether (main_test b m c) o
-    go c none = refl
-    go c (some e) = refl
+    go c None = refl
+    go c (Some e) = refl
 
 pub auxs_itemwise : (a : ℕ) (m : List ℕ) → Itemwise (item_wrong (aux_test a m) Aux m) (auxs_wrong a m)
 unfolding auxs_wrong whether
 auxs_itemwise a m = record { at_none = λ c. refl; at_item = λ c q qs. ap (λ (t : Bool). t || auxs_wrong a m (suc c) qs) (go c (expression_of m (Aux c) q)) }
   where
     go : (c : ℕ) (o : Option ℕ) → wrong_aux a c m o ≡ whether (aux_test a m c) o
-    go c none = refl
-    go c (some e) = refl
+    go c None = refl
+    go c (Some e) = refl
 
 pub main_own : (c d : ℕ) → Main c ≡ Main d → c ≡ d
 main_own c d h = ap column h
@@ -79,19 +79,18 @@ aux_own c d h = ap column h
 
 -- the first k items pass, and their expressions are kept from the place `first` on
 pub record Going (test : ℕ → ℕ → Bool) (y : ℕ → Position) (count first : ℕ) (m qs targets₀ targets : List ℕ) (k : ℕ) : Type 0 where
-  pub within : k ≤ length qs
   pub same : length targets ≡ length targets₀
   pub right : (j : ℕ) → j < k → item_wrong test y m (count + j) (at qs j) ≡ false
-  pub items : (j : ℕ) → j < k → expression_of m (y (count + j)) (at qs j) ≡ some (at targets (first + j))
+  pub items : (j : ℕ) → j < k → expression_of m (y (count + j)) (at qs j) ≡ Some (at targets (first + j))
   pub kept : (j : ℕ) → j < first → at targets j ≡ at targets₀ j
 
 module _ (test : ℕ → ℕ → Bool) (y : ℕ → Position) (own : (c d : ℕ) → y c ≡ y d → c ≡ d) (count first : ℕ) (m main_reach aux_reach qs targets₀ : List ℕ) (v : Listable m main_reach aux_reach count first qs targets₀) where
   pub going_start : Going test y count first m qs targets₀ targets₀ 0
-  going_start = record { within = omega arith; same = refl; right = λ j l. absurd (omega arith); items = λ j l. absurd (omega arith); kept = λ j l. refl }
+  going_start = record { same = refl; right = λ j l. absurd (omega arith); items = λ j l. absurd (omega arith); kept = λ j l. refl }
 
   -- items that pass are different nodes
   Gives : ℕ → Type 0
-  Gives j = (e : ℕ) × (expression_of m (y (count + j)) (at qs j) ≡ some e)
+  Gives j = (e : ℕ) × (expression_of m (y (count + j)) (at qs j) ≡ Some e)
 
   enough : (n : ℕ) → n ≤ length qs → ((j : ℕ) → j < n → Gives j) → n ≤ 4096
   unfolding Gives
@@ -111,8 +110,8 @@ module _ (test : ℕ → ℕ → Bool) (y : ℕ → Position) (own : (c d : ℕ)
     passed j l = (at targets (first + j), f.items j l)
 
     -- one more item has an expression
-    module _ (here : k < length qs) (e : ℕ) (passes : some e ≡ unless (test (count + k)) (expression_of m (y (count + k)) (at qs k))) where
-      gives : expression_of m (y (count + k)) (at qs k) ≡ some e
+    module _ (here : k < length qs) (e : ℕ) (passes : Some e ≡ unless (test (count + k)) (expression_of m (y (count + k)) (at qs k))) where
+      gives : expression_of m (y (count + k)) (at qs k) ≡ Some e
       gives = (unless_some (test (count + k)) (expression_of m (y (count + k)) (at qs k)) e passes).0
 
       pub going_room : first + k < length targets
@@ -127,25 +126,23 @@ module _ (test : ℕ → ℕ → Bool) (y : ℕ → Position) (own : (c d : ℕ)
       going_next p is =
           let room : p < length targets = rw is going_room in
           record {
-            within = omega arith;
             same = length-set targets p e ∙ f.same;
             right = below_more (λ (j : ℕ). item_wrong test y m (count + j) (at qs j) ≡ false) k f.right (unless_some (test (count + k)) (expression_of m (y (count + k)) (at qs k)) e passes).2;
-            items = below_more (λ (j : ℕ). expression_of m (y (count + j)) (at qs j) ≡ some (at (set targets p e) (first + j))) k
-                (λ j l. f.items j l ∙ ap some (sym (get_or-set_other targets p (first + j) e 0 (omega arith))))
-                (gives ∙ ap some (sym (get_or-set_same targets p e 0 room) ∙ ap (at (set targets p e)) is));
+            items = below_more (λ (j : ℕ). expression_of m (y (count + j)) (at qs j) ≡ Some (at (set targets p e) (first + j))) k
+                (λ j l. f.items j l ∙ ap Some (sym (get_or-set_other targets p (first + j) e 0 (omega arith))))
+                (gives ∙ ap Some (sym (get_or-set_same targets p e 0 room) ∙ ap (at (set targets p e)) is));
             kept = λ j l. get_or-set_other targets p j e 0 (omega arith) ∙ f.kept j l;
           }
 
     module _ {wrongs : ℕ → List ℕ → Bool} (each : Itemwise (item_wrong test y m) wrongs) where
-      pub going_wrong : k < length qs → none ≡ unless (test (count + k)) (expression_of m (y (count + k)) (at qs k)) → Answered (wrongs count qs) y count first m qs targets₀ targets true
+      pub going_wrong : k < length qs → None ≡ unless (test (count + k)) (expression_of m (y (count + k)) (at qs k)) → Answered (wrongs count qs) y count first m qs targets₀ targets true
       going_wrong l h = record { told = sym (wrong_here each qs count k l (unless_none (test (count + k)) (expression_of m (y (count + k)) (at qs k)) h)); found = λ z. clash true refl z; few = λ z. clash true refl z; kept = f.kept }
 
-      pub going_done : length qs ≤ k → Answered (wrongs count qs) y count first m qs targets₀ targets false
-      going_done l =
-          let w = f.within in
+      pub going_done : k ≤ length qs → length qs ≤ k → Answered (wrongs count qs) y count first m qs targets₀ targets false
+      going_done w l =
           record {
             told = sym (wrong_nowhere each qs count (λ j a. f.right j (omega arith)));
             found = λ z j a. f.items j (omega arith);
-            few = λ z. let n = enough k f.within passed in omega arith;
+            few = λ z. let n = enough k w passed in omega arith;
             kept = f.kept;
           }

@@ -1,4 +1,5 @@
 -- How far a node reads tells whether its expression reads an unfilled column. Assumes nothing.
+use Rattle.std.specs.Prelude.{None}
 use Prim.Native.Nat.{ℕ, zero, suc, ◌<◌, max}
 use mathlib.Core.Path.{◌≡◌, refl, sym, ap, ap₂, ◌∙◌}
 use mathlib.Core.Logic.{⊎_elim}
@@ -19,7 +20,6 @@ use Rattle.layout.proofs.Tests.{neither, or-false, or_right, below_or}
 use Rattle.layout.proofs.Lists.{clash, or_left}
 use Rattle.layout.proofs.Valid.{valid_node, valid_ends}
 use Rattle.walking.specs.Paths.{walk}
-use Rattle.read.specs.declared.step.Step.TheVariants.{Stay}
 use Rattle.read.specs.Tables.{operands_of}
 use Rattle.read.proofs.Lists.{any_append}
 use Rattle.read.proofs.Tables.{Folds, Joined, answer_two, answer_leaf}
@@ -35,7 +35,7 @@ module _ (b : Bool) (m : List ℕ) (valid : not_circuit m ≡ false) where
   unfolding reach_to
   reach_two i h o l r e = answer_two (reach b) (leaf_reach b) reach_join (reach_folds b) m valid i h o l r e
 
-  pub reach_leaf : (i : ℕ) → i < used m → operands_of (expression_at m i) ≡ Stay → reach_entry b (expression_at m i) ≡ reach_to b m i
+  pub reach_leaf : (i : ℕ) → i < used m → operands_of (expression_at m i) ≡ None → reach_entry b (expression_at m i) ≡ reach_to b m i
   unfolding reach_to reach_entry
   reach_leaf i h s = answer_leaf (reach b) (leaf_reach b) reach_join (reach_folds b) m valid i h 0 s
 

@@ -1,9 +1,9 @@
 -- A loop over the rows of one table, and the rest after them. Assumes nothing.
-use Prim.Native.Nat.{ℕ, suc, ◌+◌, ◌-◌, ◌*◌, ◌/◌, ◌<◌, ◌≤◌}
+use Prim.Native.Nat.{ℕ, ◌+◌, ◌-◌, ◌*◌, ◌/◌, ◌<◌, ◌≤◌}
 use mathlib.Core.Path.{◌≡◌, sym, ap, ◌∙◌}
 use mathlib.Core.Bool.{Bool, true, false}
 use mathlib.Core.List.{List, []}
-use native.Mathlib.Nat.{suc-mul, mul-le-mul_right, mul-div-le}
+use native.Mathlib.Nat.{mul-le-mul_right, mul-div-le}
 use native.Mathlib.Omega.{arith}
 use lib.ListN.{length, take, drop, length-drop, drop_of_length-le}
 use lib.Seq.{take_all, take-nil, drop-nil}
@@ -12,13 +12,6 @@ use Rattle.layout.specs.NotCircuit.{bad_word}
 use Rattle.layout.proofs.Tests.{or-false, any_one, any_none}
 use Rattle.layout.proofs.Lists.{or_left}
 use Rattle.fillable.specs.Beside.{row_of, bad_beside, bad_table_beside}
-
--- a row before the last one's end
-pub row_within : (width n r : ℕ) (table : List ℕ) → n * width ≤ length table → r < n → r * width + width ≤ length table
-row_within width n r table h l =
-    let g : suc r * width ≤ n * width = mul-le-mul_right width l in
-    let e : suc r * width ≡ r * width + width = suc-mul r width in
-    omega arith
 
 -- some of its rows lie in a table
 pub rows_within : (rows n : ℕ) (table : List ℕ) → n ≤ rows → n * (length table / rows) ≤ length table

@@ -1,6 +1,5 @@
 -- The test 17 NOT_LOWERED as the code answers it, which hands on the expressions of the listed nodes. Assumes nothing.
-use Rattle.std.specs.Prelude.{ℕ, ◌+◌, ◌<◌, ◌≤◌, ◌≡◌, Bool, true, false, ◌||◌, not, List, length, if◌then◌else◌}
-use Rattle.std.proofs.Math.Option.{Option, none, some}
+use Rattle.std.specs.Prelude.{ℕ, ◌+◌, ◌<◌, ◌≤◌, ◌≡◌, Bool, true, false, ◌||◌, not, List, length, if◌then◌else◌, Option, None, Some}
 use Rattle.layout.specs.declared.node.Position.{Position}
 use Rattle.layout.specs.declared.node.Position.TheVariants.{Main, Aux}
 use Rattle.layout.specs.Words.{used}
@@ -26,8 +25,8 @@ pub record Lowerable (main_count aux_count : ℕ) (m order rank mains auxs bases
 
 -- the expressions of the main list, then those of the auxiliary list
 pub record Targets (main_count aux_count : ℕ) (m mains auxs targets : List ℕ) : Type 0 where
-  pub of_main : (k : ℕ) → k < length mains → expression_of m (Main (main_count + k)) (at mains k) ≡ some (at targets k)
-  pub of_aux : (k : ℕ) → k < length auxs → expression_of m (Aux (aux_count + k)) (at auxs k) ≡ some (at targets (length mains + k))
+  pub of_main : (k : ℕ) → k < length mains → expression_of m (Main (main_count + k)) (at mains k) ≡ Some (at targets k)
+  pub of_aux : (k : ℕ) → k < length auxs → expression_of m (Aux (aux_count + k)) (at auxs k) ≡ Some (at targets (length mains + k))
   pub few : length mains + length auxs ≤ 8192
 
 pub record Tested (main_count aux_count : ℕ) (m mains auxs targets : List ℕ) (r : Bool) : Type 0 where
@@ -36,8 +35,8 @@ pub record Tested (main_count aux_count : ℕ) (m mains auxs targets : List ℕ)
 
 -- an expression that passes
 unfoldable pub unless : (ℕ → Bool) → Option ℕ → Option ℕ
-unless wrong none = none
-unless wrong (some e) = if wrong e then none else some e
+unless wrong None = None
+unless wrong (Some e) = if wrong e then None else Some e
 
 -- a main expression is wrong where it reads an unfilled current-row column or fails the base test
 abbrev pub wrong_for_main : ℕ → ℕ → List ℕ → ℕ → Bool
@@ -66,6 +65,6 @@ pub record Listable (m main_reach aux_reach : List ℕ) (count first : ℕ) (qs 
 -- what the test of one list answers, where it is `wrong`, and hands on if it isn't
 pub record Answered (wrong : Bool) (y : ℕ → Position) (count first : ℕ) (m qs targets targets' : List ℕ) (r : Bool) : Type 0 where
   pub told : r ≡ wrong
-  pub found : r ≡ false → (k : ℕ) → k < length qs → expression_of m (y (count + k)) (at qs k) ≡ some (at targets' (first + k))
+  pub found : r ≡ false → (k : ℕ) → k < length qs → expression_of m (y (count + k)) (at qs k) ≡ Some (at targets' (first + k))
   pub few : r ≡ false → length qs ≤ 4096
   pub kept : (k : ℕ) → k < first → at targets' k ≡ at targets k

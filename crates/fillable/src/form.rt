@@ -5,22 +5,13 @@ ghost use Rattle.layout.specs.declared.node.Expression.TheVariants.{Operation};
 ghost use Rattle.layout.specs.Words.{used, offset};
 ghost use Rattle.layout.specs.NotCircuit.{not_circuit};
 ghost use Rattle.filling.specs.Constraints.{is_input, minus_times, column_plus, expression_of};
-ghost use Rattle.fillable.specs.Forms.{form_of, Operands};
+ghost use Rattle.fillable.specs.Forms.{Operands};
 
 use circuit::constants::is_constant;
 use circuit::place::{expression_at, words_of};
 use classes::table::same_words;
+use field::base::MINUS_ONE;
 use layout::node::{Expression, Op, Position};
-
-// -1 in the base field.
-const MINUS_ONE: u64 = 18446744069414584320;
-
-// What a listed node gives its column, if it has the form.
-#[derive(Clone, Copy)]
-pub enum Form {
-    Nothing,
-    Of(u64),
-}
 
 // Whether node i is the input y.
 fn is_input(m: &[u64], y: Position, i: u64) -> bool
@@ -32,40 +23,40 @@ fn is_input(m: &[u64], y: Position, i: u64) -> bool
 }
 
 // Of the product of l and r, the other factor if one is -1.
-fn minus_product(m: &[u64], l: u64, r: u64) -> Form
+fn minus_product(m: &[u64], l: u64, r: u64) -> Option<u64>
     requires { Operands m.now (Operation Multiply l r) }
-    ensures { form_of result ≡ minus_times m.now (Operation Multiply l r) }
+    ensures { result ≡ minus_times m.now (Operation Multiply l r) }
 {
     if is_constant(MINUS_ONE, m, l) {
-        return Form::Of(r);
+        return Some(r);
     }
     if is_constant(MINUS_ONE, m, r) {
-        return Form::Of(l);
+        return Some(l);
     }
-    Form::Nothing
+    None
 }
 
 // Of -1 times an expression, that expression.
-fn minus_times(m: &[u64], e: Expression) -> Form
+fn minus_times(m: &[u64], e: Expression) -> Option<u64>
     requires { Operands m.now e }
-    ensures { form_of result ≡ minus_times m.now e }
+    ensures { result ≡ minus_times m.now e }
 {
     match e {
-        Expression::Base(_) => Form::Nothing,
-        Expression::Extension(_) => Form::Nothing,
-        Expression::Challenge(_) => Form::Nothing,
+        Expression::Base(_) => None,
+        Expression::Extension(_) => None,
+        Expression::Challenge(_) => None,
         Expression::Operation(o, l, r) => match o {
-            Op::Add => Form::Nothing,
+            Op::Add => None,
             Op::Multiply => minus_product(m, l, r),
         },
-        Expression::Input(_) => Form::Nothing,
+        Expression::Input(_) => None,
     }
 }
 
 // Of the sum of l and r, the expression if one of them is the input y.
-fn column_sum(m: &[u64], y: Position, l: u64, r: u64) -> Form
+fn column_sum(m: &[u64], y: Position, l: u64, r: u64) -> Option<u64>
     requires { Operands m.now (Operation Add l r) }
-    ensures { form_of result ≡ column_plus m.now y (Operation Add l r) }
+    ensures { result ≡ column_plus m.now y (Operation Add l r) }
 {
     if is_input(m, y, l) {
         return minus_times(m, expression_at(m, r));
@@ -73,30 +64,30 @@ fn column_sum(m: &[u64], y: Position, l: u64, r: u64) -> Form
     if is_input(m, y, r) {
         return minus_times(m, expression_at(m, l));
     }
-    Form::Nothing
+    None
 }
 
 // Of the input y plus -1 times an expression, that expression.
-fn column_plus(m: &[u64], y: Position, e: Expression) -> Form
+fn column_plus(m: &[u64], y: Position, e: Expression) -> Option<u64>
     requires { Operands m.now e }
-    ensures { form_of result ≡ column_plus m.now y e }
+    ensures { result ≡ column_plus m.now y e }
 {
     match e {
-        Expression::Base(_) => Form::Nothing,
-        Expression::Extension(_) => Form::Nothing,
-        Expression::Challenge(_) => Form::Nothing,
+        Expression::Base(_) => None,
+        Expression::Extension(_) => None,
+        Expression::Challenge(_) => None,
         Expression::Operation(o, l, r) => match o {
             Op::Add => column_sum(m, y, l, r),
-            Op::Multiply => Form::Nothing,
+            Op::Multiply => None,
         },
-        Expression::Input(_) => Form::Nothing,
+        Expression::Input(_) => None,
     }
 }
 
 // The expression that a listed node q gives the column y.
-pub fn expression_of(m: &[u64], y: Position, q: u64) -> Form
+pub fn expression_of(m: &[u64], y: Position, q: u64) -> Option<u64>
     requires { (not_circuit m.now ≡ false) × (q < used m.now) }
-    ensures { form_of result ≡ expression_of m.now y q }
+    ensures { result ≡ expression_of m.now y q }
 {
     column_plus(m, y, expression_at(m, q))
 }

@@ -14,10 +14,7 @@ fn bad_beside(row: &[u64], from: usize, to: usize) -> bool
     requires { (from ≤ length row.now) × (to ≤ length row.now) }
     ensures { result ≡ bad_beside from to row.now }
 {
-    if any_bad(&row[..from]) {
-        return true;
-    }
-    any_bad(&row[to..])
+    any_bad(&row[..from]) || any_bad(&row[to..])
 }
 
 // The rows that are filled, and then the rest, which is given whole.
@@ -25,17 +22,14 @@ fn bad_rows_beside(table: &[u64], width: usize, from: usize, to: usize, filled: 
     requires { Inside width from to filled table.now }
     ensures { result ≡ bad_table_beside width from to filled table.now }
 {
-    let mut at = 0;
-    let mut r: u64 = 0;
-    while r < filled {
-        let end = at + width;
-        if bad_beside(&table[at..end], from, to) {
+    let n = filled as usize;
+    for r in 0..n {
+        let at = r * width;
+        if bad_beside(&table[at..at + width], from, to) {
             return true;
         }
-        at = end;
-        r += 1;
     }
-    any_bad(&table[at..])
+    any_bad(&table[n * width..])
 }
 
 // The same of a table of so many rows, where an empty one answers at once: nothing bounds its number of rows.

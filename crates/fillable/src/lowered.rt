@@ -4,10 +4,9 @@ ghost use Rattle.layout.specs.declared.node.Position.TheVariants.{Main, Aux};
 ghost use Rattle.layout.specs.Words.{used};
 ghost use Rattle.filling.specs.Constraints.{expression_of, reads_unfilled};
 ghost use Rattle.filling.specs.Refusals.{mains_wrong, auxs_wrong};
-ghost use Rattle.fillable.specs.Forms.{form_of};
 ghost use Rattle.fillable.specs.Targets.{Lowerable, Tested, Reached, Based, Listable, Answered, unless, wrong_for_main};
 
-use crate::form::{Form, expression_of};
+use crate::form::expression_of;
 use crate::reach::reaches;
 use layout::node::Position;
 
@@ -20,21 +19,19 @@ fn ready(
     q: u64,
     a: u64,
     b: u64,
-) -> Form
+) -> Option<u64>
     requires { Reached m.now main_reach.now aux_reach.now × (q < used m.now) }
-    ensures { form_of result ≡ unless (reads_unfilled a b m.now) (expression_of m.now y q) }
+    ensures { result ≡ unless (reads_unfilled a b m.now) (expression_of m.now y q) }
 {
-    let Form::Of(e) = expression_of(m, y, q) else {
-        return Form::Nothing;
-    };
+    let e = expression_of(m, y, q)?;
     let node = e as usize;
     if a < main_reach[node] {
-        return Form::Nothing;
+        return None;
     }
     if b < aux_reach[node] {
-        return Form::Nothing;
+        return None;
     }
-    Form::Of(e)
+    Some(e)
 }
 
 // The expression that node q gives the main column a, if it passes the base test too.
@@ -46,18 +43,16 @@ fn ready_main(
     q: u64,
     a: u64,
     b: u64,
-) -> Form
+) -> Option<u64>
     requires { Reached m.now main_reach.now aux_reach.now × Based m.now bases.now × (q < used m.now) }
-    ensures { form_of result ≡ unless (wrong_for_main a b m.now) (expression_of m.now (Main a) q) }
+    ensures { result ≡ unless (wrong_for_main a b m.now) (expression_of m.now (Main a) q) }
 {
-    let Form::Of(e) = ready(m, main_reach, aux_reach, Position::Main(a), q, a, b) else {
-        return Form::Nothing;
-    };
+    let e = ready(m, main_reach, aux_reach, Position::Main(a), q, a, b)?;
     let node = e as usize;
     if bases[node] != 1 {
-        return Form::Nothing;
+        return None;
     }
-    Form::Of(e)
+    Some(e)
 }
 
 // The main list: the column main_count + k is filled by its node k. The expressions go to the targets from the first place on.
@@ -74,15 +69,12 @@ fn mains_wrong(
     requires { Listable m.now main_reach.now aux_reach.now main_count 0 mains.now targets.old × Based m.now bases.now }
     ensures { Answered (mains_wrong aux_count m.now main_count mains.now) Main main_count 0 m.now mains.now targets.old targets.new result }
 {
-    let mut k = 0;
-    while k < mains.len() {
+    for (k, &q) in mains.iter().enumerate() {
         let column = main_count + k as u64;
-        let Form::Of(e) = ready_main(m, main_reach, aux_reach, bases, mains[k], column, aux_count)
-        else {
+        let Some(e) = ready_main(m, main_reach, aux_reach, bases, q, column, aux_count) else {
             return true;
         };
         targets[k] = e;
-        k += 1;
     }
     false
 }
@@ -101,15 +93,13 @@ fn auxs_wrong(
     requires { Listable m.now main_reach.now aux_reach.now aux_count first auxs.now targets.old }
     ensures { Answered (auxs_wrong main_end m.now aux_count auxs.now) Aux aux_count first m.now auxs.now targets.old targets.new result }
 {
-    let mut k = 0;
-    while k < auxs.len() {
+    for (k, &q) in auxs.iter().enumerate() {
         let column = aux_count + k as u64;
         let y = Position::Aux(column);
-        let Form::Of(e) = ready(m, main_reach, aux_reach, y, auxs[k], main_end, column) else {
+        let Some(e) = ready(m, main_reach, aux_reach, y, q, main_end, column) else {
             return true;
         };
         targets[first + k] = e;
-        k += 1;
     }
     false
 }

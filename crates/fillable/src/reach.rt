@@ -8,7 +8,7 @@ ghost use Rattle.fillable.specs.Reaching.{input_reach, reach_entry, reach_to, Co
 
 use circuit::place::expression_at;
 use layout::node::{Expression, Position};
-use read::step::{Step, operands_of};
+use read::step::operands_of;
 
 // One above the column, of a main or of an auxiliary input of the current row.
 fn input_reach(q: Position, main: bool) -> u64
@@ -61,8 +61,8 @@ fn reach_at(m: &[u64], table: &[u64], main: bool, i: u64) -> u64
     let e = expression_at(m, i);
     let s = operands_of(e);
     match s {
-        Step::Stay => leaf_reach(e, main),
-        Step::Two(_, l, r) => {
+        None => leaf_reach(e, main),
+        Some((_, l, r)) => {
             let left = l as usize;
             let right = r as usize;
             larger(table[left], table[right])
@@ -75,14 +75,7 @@ pub(crate) fn reaches(m: &[u64], order: &[u64], rank: &[u64], main: bool, table:
     requires { Ordered m.now order.now rank.now table.old }
     ensures { Filled (used m.now) (at table.new) (reach_to main m.now) }
 {
-    let n = m[1];
-    let mut q: u64 = 0;
-    while q < n {
-        let place = q as usize;
-        let i = order[place];
-        let d = reach_at(m, table, main, i);
-        let node = i as usize;
-        table[node] = d;
-        q += 1;
+    for &i in &order[..m[1] as usize] {
+        table[i as usize] = reach_at(m, table, main, i);
     }
 }

@@ -12,7 +12,7 @@ use Rattle.filling.specs.Promise.{window_of}
 use Rattle.filler.specs.declared.plan.Shape.{Shape}
 use Rattle.filler.specs.Running.{Values}
 use Rattle.filler.specs.Planning.{Ready}
-use Rattle.filler.specs.Rowing.{words_for, triples_for, row_stored, RowInside, RowFillable, RowDone}
+use Rattle.filler.specs.Rowing.{words_for, triples_for, row_stored, RowInside, RowDone}
 use Rattle.filler.specs.Filling.{Fillable}
 use Rattle.filler.proofs.Runs.{ran_lengths}
 use Rattle.filler.proofs.Stores.{words_length, triples_length, window_sets}
@@ -20,7 +20,6 @@ use Rattle.filler.proofs.Rowings.{window_length}
 
 -- the last rows are filled, and r are left
 pub record Filling (s : Shape) (filled : ℕ) (m mains auxs challenges main₀ aux₀ words₀ triples₀ main aux words triples : List ℕ) (r : ℕ) : Type 0 where
-  pub within : r ≤ filled
   pub same_main : length main ≡ length main₀
   pub same_aux : length aux ≡ length aux₀
   pub same_words_lem : length words ≡ length words₀
@@ -33,18 +32,11 @@ module _ (s : Shape) (filled many : ℕ) (m mains auxs challenges targets bases 
   abbrev f : List ℕ × List ℕ → List ℕ × List ℕ
   f = row_filled s.main s.aux m mains auxs challenges
 
-  pub filling_start : Filling s filled m mains auxs challenges main₀ aux₀ words₀ triples₀ main₀ aux₀ words₀ triples₀ filled
-  filling_start = record { within = omega arith; same_main = refl; same_aux = refl; same_words_lem = refl; same_triples = refl; ready = able.ready; rest = refl }
-
-  module _ (main aux words triples : List ℕ) (r : ℕ) (x : Filling s filled m mains auxs challenges main₀ aux₀ words₀ triples₀ main aux words triples r) (some : 0 < r) where
+  module _ (main aux words triples : List ℕ) (r : ℕ) (x : Filling s filled m mains auxs challenges main₀ aux₀ words₀ triples₀ main aux words triples r) (w : r ≤ filled) (some : 0 < r) where
     inside_now : RowInside s (row_kind m) (r - 1) main aux
     inside_now =
-        let w = x.within in
         let i = able.within.each (r - 1) (omega arith) in
         record { main_inside = rw x.same_main i.main_inside; aux_inside = rw x.same_aux i.aux_inside }
-
-    pub filling_row : RowFillable s (row_kind m) (r - 1) many plan targets bases main aux words triples
-    filling_row = record { fits = able.prepared.fits; inside = inside_now; rooms = x.ready.rooms }
 
     module _ (main' aux' words' triples' : List ℕ) (d : RowDone s (row_kind m) (r - 1) many plan targets bases main aux words triples main' aux' words' triples') where
       abbrev wm : List ℕ
@@ -83,11 +75,9 @@ module _ (s : Shape) (filled many : ℕ) (m mains auxs challenges targets bases 
       pub filling_next : Filling s filled m mains auxs challenges main₀ aux₀ words₀ triples₀ main' aux' words' triples' (r - 1)
       unfolding each_row
       filling_next =
-          let w = x.within in
           let back : suc (r - 1) ≡ r = omega arith in
           let (lw, lt) = ran_lengths plan wm wa (words, triples) many in
           record {
-            within = omega arith;
             same_main = ap length d.main_stored ∙ length-sets main ((r - 1) * s.row + s.main) (words_for words' targets s.fresh) ∙ x.same_main;
             same_aux = ap length d.aux_stored ∙ length-sets aux ((r - 1) * (3 * s.wide) + 3 * s.aux) (triples_for bases (words', triples') targets s.fresh (s.items - s.fresh)) ∙ x.same_aux;
             same_words_lem = ap (λ (v : Values). length v.0) d.values ∙ lw ∙ x.same_words_lem;

@@ -5,7 +5,7 @@ use mathlib.Core.Logic.{◌≢◌, ⊎_elim}
 use mathlib.Core.Bool.{false}
 use mathlib.Core.List.{List}
 use native.Mathlib.Omega.{arith}
-use lib.ListN.{length, set, length-set}
+use lib.ListN.{length, length-set}
 use lib.Seq.{get_or-set_same, get_or-set_other}
 use Rattle.arithmetic.specs.declared.Triple.{Triple}
 use Rattle.layout.specs.declared.node.Expression.{Expression}
@@ -19,8 +19,7 @@ use Rattle.reading.specs.Calls.{triple_at}
 use Rattle.read.specs.Values.{put_triple}
 use Rattle.read.proofs.Values.{put_length, put_here, put_other}
 use Rattle.filler.specs.Running.{Values, Roomy}
-use Rattle.filler.specs.Planning.{Ready, fixed_one}
-use Rattle.filler.specs.Preparing.{Resolved}
+use Rattle.filler.specs.Planning.{fixed_one}
 
 module _ (challenges : List ℕ) (n : ℕ) where
   fixed_lengths : (e : Expression) (v : Values) → (length (fixed_one challenges n e v).0 ≡ length v.0) × (length (fixed_one challenges n e v).1 ≡ length v.1)
@@ -39,16 +38,11 @@ module _ (challenges : List ℕ) (n : ℕ) where
 
 -- the first n nodes have their entries
 pub record Fixing (m challenges words₀ triples₀ words triples : List ℕ) (n : ℕ) : Type 0 where
-  pub within : n ≤ used m
   pub same_words_lem : length words ≡ length words₀
   pub same_triples : length triples ≡ length triples₀
   pub base : (i w : ℕ) → i < n → expression_at m i ≡ Base w → at words i ≡ w
   pub extension : (i : ℕ) (x : Triple) → i < n → expression_at m i ≡ Extension x → triple_at triples i ≡ x
   pub challenge : (i k : ℕ) → i < n → expression_at m i ≡ Challenge k → triple_at triples i ≡ triple_at challenges k
-
-pub fixing_start : (m challenges words triples : List ℕ) → Fixing m challenges words triples words triples 0
-fixing_start m challenges words triples =
-    record { within = omega arith; same_words_lem = refl; same_triples = refl; base = λ i w l. absurd (omega arith); extension = λ i x l. absurd (omega arith); challenge = λ i k l. absurd (omega arith) }
 
 module _ (m challenges words₀ triples₀ words triples : List ℕ) (n : ℕ) (valid : not_circuit m ≡ false) (rooms : Roomy words₀ triples₀) (f : Fixing m challenges words₀ triples₀ words triples n) where
   pub fixing_room : n < used m → (n < length words) × (3 * n + 2 < length triples)
@@ -70,7 +64,6 @@ module _ (m challenges words₀ triples₀ words triples : List ℕ) (n : ℕ) (
       let room = fixing_room h in
       let is : (x : Expression) → expression_at m n ≡ x → (words', triples') ≡ fixed_one challenges n x v = λ x p. e ∙ ap (λ (y : Expression). fixed_one challenges n y v) p in
       record {
-        within = omega arith;
         same_words_lem = ap length w ∙ lw ∙ f.same_words_lem;
         same_triples = ap length t ∙ lt ∙ f.same_triples;
         base = λ i c l p. ⊎_elim
@@ -84,42 +77,13 @@ module _ (m challenges words₀ triples₀ words triples : List ℕ) (n : ℕ) (
             (λ k. ap (λ (y : List ℕ). triple_at y i) t ∙ (fixed_other challenges n (expression_at m n) v i (omega arith)).1 ∙ f.challenge i c k p) (last_or i n (omega arith));
       }
 
-  pub fixing_done : used m ≤ n → Ready m challenges (words, triples)
-  fixing_done h =
-      record {
-        rooms = record { words_room = rw f.same_words_lem rooms.words_room; triples_room = rw f.same_triples rooms.triples_room };
-        base = λ i w l e. f.base i w (omega arith) e;
-        extension = λ i x l e. f.extension i x (omega arith) e;
-        challenge = λ i k l e. f.challenge i k (omega arith) e;
-      }
-
 -- the targets
 
 -- the first k are where their values stand, and the others as they were
-pub record Resolving (targets₀ alias targets : List ℕ) (items k : ℕ) : Type 0 where
-  pub within : k ≤ items
+pub record Resolving (targets₀ alias targets : List ℕ) (k : ℕ) : Type 0 where
   pub same : length targets ≡ length targets₀
   pub told : (j : ℕ) → j < k → at targets j ≡ at alias (at targets₀ j)
   pub rest : (j : ℕ) → k ≤ j → at targets j ≡ at targets₀ j
-
-pub resolving_start : (targets alias : List ℕ) (items : ℕ) → Resolving targets alias targets items 0
-resolving_start targets alias items = record { within = omega arith; same = refl; told = λ j l. absurd (omega arith); rest = λ j l. refl }
-
-pub resolving_next : (targets₀ alias targets : List ℕ) (items k : ℕ) → Resolving targets₀ alias targets items k → k < items → items ≤ length targets₀ → Resolving targets₀ alias (set targets k (at alias (at targets k))) items (k + 1)
-resolving_next targets₀ alias targets items k r h room =
-    let s = r.same in
-    record {
-      within = omega arith;
-      same = length-set targets k (at alias (at targets k)) ∙ s;
-      told = λ j l. ⊎_elim
-          (λ e. rw e (get_or-set_same targets k (at alias (at targets k)) 0 (omega arith) ∙ ap (at alias) (r.rest k (omega arith))))
-          (λ lt. get_or-set_other targets k j (at alias (at targets k)) 0 (omega arith) ∙ r.told j lt)
-          (last_or j k (omega arith));
-      rest = λ j l. get_or-set_other targets k j (at alias (at targets k)) 0 (omega arith) ∙ r.rest j (omega arith);
-    }
-
-pub resolving_done : (targets₀ alias targets : List ℕ) (items k : ℕ) → Resolving targets₀ alias targets items k → items ≤ k → Resolved targets₀ alias targets items
-resolving_done targets₀ alias targets items k r h = record { same = r.same; told = λ j l. let w = r.within in r.told j (omega arith) }
 
 -- a triple that was kept
 pub fixed_triple : (words triples triples' : List ℕ) (i : ℕ) (x y : Triple) → triples' ≡ put_triple triples i x → x ≡ y → ◌≡◌ {A = Values} (words, triples') (words, put_triple triples i y)

@@ -87,31 +87,12 @@ sum_word x y = refl
 product_word : (x y : Triple) → x ≡ lift x.c0 → y ≡ lift y.c0 → (times x y).c0 ≡ multiply x.c0 y.c0
 product_word x y e f = ap (λ (z : Triple). z.c0) (ap₂ times e f ∙ lift_times x.c0 y.c0)
 
-module _ (s : Shape) (m bases targets challenges order rank : List ℕ) (done : ℕ) where
+module _ (s : Shape) (m bases targets challenges order rank : List ℕ) where
   -- the loop over the order: q nodes are planned
   pub record Planning (alias₀ plan₀ alias plan : List ℕ) (q many : ℕ) : Type 0 where
-    pub within : q ≤ done
     pub same_alias : length alias ≡ length alias₀
     pub same_plan : length plan ≡ length plan₀
     pub so_far : Planned s m bases targets challenges order rank alias plan q many
-
-  pub planning_start : (alias plan : List ℕ) → Planning alias plan alias plan 0 0
-  planning_start alias plan =
-      record {
-        within = omega arith;
-        same_alias = refl;
-        same_plan = refl;
-        so_far =
-            record {
-              few = omega arith;
-              sound = λ k l. absurd (omega arith);
-              spares = λ k l. absurd (omega arith);
-              entry_below = λ j l. absurd (omega arith);
-              entry_rank = λ j l. absurd (omega arith);
-              entry_base = λ j l. absurd (omega arith);
-              stand = λ a main aux v says ready j l. absurd (omega arith);
-            };
-      }
 
 module _ (s : Shape) (m bases targets challenges order rank : List ℕ) (done : ℕ) (able : Plannable s m bases targets order rank done) where
   top : used m ≤ 4096
@@ -465,7 +446,7 @@ module _ (s : Shape) (m bases targets challenges order rank : List ℕ) (done : 
       unfolding alias'
       plan_next = next_planned (eqb x.op 9) refl
 
-  module _ (alias₀ plan₀ alias plan : List ℕ) (q many : ℕ) (k : Planning s m bases targets challenges order rank done alias₀ plan₀ alias plan q many) (more : q < done) (alias_room : 4096 ≤ length alias₀) (plan_room : 16384 ≤ length plan₀) where
+  module _ (alias₀ plan₀ alias plan : List ℕ) (q many : ℕ) (k : Planning s m bases targets challenges order rank alias₀ plan₀ alias plan q many) (more : q < done) (alias_room : 4096 ≤ length alias₀) (plan_room : 16384 ≤ length plan₀) where
     pub planning_room : (q < 4096) × (at order q < used m) × (at order q < length alias) × (4 * many + 3 < length plan)
     planning_room =
         let t = top in
@@ -492,12 +473,11 @@ module _ (s : Shape) (m bases targets challenges order rank : List ℕ) (done : 
           item = λ i e. let b = able.staged.item_below (at order q) i here fin e in (omega arith, able.staged.target_below i b);
         }
 
-    pub planning_next : (x : Instruction) → x ≡ planned s m bases targets alias (at order q) → (plan' : List ℕ) (many' : ℕ) → plan' ≡ pushed plan many x → many' ≡ pushed_many many x → length plan' ≡ length plan → Planning s m bases targets challenges order rank done alias₀ plan₀ (set alias (at order q) x.to) plan' (q + 1) many'
+    pub planning_next : (x : Instruction) → x ≡ planned s m bases targets alias (at order q) → (plan' : List ℕ) (many' : ℕ) → plan' ≡ pushed plan many x → many' ≡ pushed_many many x → length plan' ≡ length plan → Planning s m bases targets challenges order rank alias₀ plan₀ (set alias (at order q) x.to) plan' (q + 1) many'
     planning_next x is plan' many' e f same =
         let a = k.same_alias in
         let b = k.same_plan in
         record {
-          within = omega arith;
           same_alias = length-set alias (at order q) x.to ∙ a;
           same_plan = same ∙ b;
           so_far = rw (e, f) (plan_next alias plan q many k.so_far more (omega arith) (omega arith) x is);

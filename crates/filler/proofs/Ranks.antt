@@ -1,7 +1,9 @@
 -- The walks from the expressions, one after the other: what each finishes reads what was finished before it. Assumes nothing.
+use Rattle.std.specs.Prelude.{Option, Some, None}
+use Rattle.std.specs.Option.{IsSome}
 use Prim.Native.Nat.{ℕ, ◌+◌, ◌<◌, ◌≤◌}
 use mathlib.Core.Path.{◌≡◌, refl, sym, ap, ◌∙◌}
-use mathlib.Core.Logic.{◌⊎◌, inl, inr, ⊎_elim, ◌≢◌}
+use mathlib.Core.Logic.{◌⊎◌, inl, inr, ⊎_elim}
 use mathlib.Core.Bool.{Bool, true, false, ◌&&◌, not}
 use mathlib.Core.List.{List, [], ◌∷◌}
 use native.Mathlib.Nat.{not-suc-le-zero}
@@ -23,7 +25,7 @@ use Rattle.layout.proofs.Valid.{valid_operands, valid_ends}
 use Rattle.layout.proofs.Trees.{tree_fixed}
 use Rattle.walking.specs.Paths.{walk}
 use Rattle.circuit.specs.Rank.{at}
-use Rattle.circuit.specs.Walk.{Unfinished, Visiting, Falls, Visited}
+use Rattle.circuit.specs.Walk.{Unfinished, Visiting, Falls, Further, Visited}
 use Rattle.circuit.proofs.Marks.{finished_le}
 use Rattle.circuit.proofs.Visits.{ranking_start}
 use Rattle.circuit.proofs.Checks.{known_walkable}
@@ -82,14 +84,12 @@ module _ (m : List ℕ) (valid : not_circuit m ≡ false) (p : Expression → Bo
 -- THE LOOP OVER THE EXPRESSIONS
 
 pub record Reaching (s : Shape) (c : ℕ) (m targets rank₀ rank : List ℕ) (done k : ℕ) : Type 0 where
-  pub within : k ≤ s.items
   pub same_length : length rank ≡ length rank₀
   pub reached : Reached s c m targets rank done k
 
 pub reaching_start : (s : Shape) (c : ℕ) (m targets rank : List ℕ) → Unfinished rank (used m) → Reaching s c m targets rank rank 0 0
 unfolding Unfinished
 reaching_start s c m targets rank u = record {
-  within = omega arith;
   same_length = refl;
   reached = record {
     walking = (ranking_start m rank u).walking;
@@ -103,17 +103,18 @@ module _ (s : Shape) (c : ℕ) (m targets rank₀ rank : List ℕ) (done k : ℕ
   pub reaching_visit : 4096 ≤ length rank₀ → Visiting m rank (at targets k) done
   reaching_visit r = let q = x.same_length in record { able = known_walkable m rank t.valid (omega arith); here = t.below k here; walking = x.reached.walking }
 
-  module _ (rank' : List ℕ) (more : ℕ) (v : Visited m rank rank' (at targets k) (used m) more) where
-    -- paths of a circuit end
-    some : more ≢ 0
-    some z = clash _ (v.goes_on z) (valid_ends m t.valid (at targets k) (t.below k here))
+  -- paths of a circuit end
+  pub visit_ends : (rank' : List ℕ) (answer : Option ℕ) → Visited m rank rank' (at targets k) (used m) answer → IsSome answer
+  visit_ends rank' None v = clash _ (v.goes_on refl) (valid_ends m t.valid (at targets k) (t.below k here))
+  visit_ends rank' (Some more) v = refl
 
+  module _ (rank' : List ℕ) (more : ℕ) (v : Further m rank rank' (at targets k) more) where
     -- a node finished now, or before
     clear_or : (j : ℕ) → at rank' j < used m → (at rank j < used m) ⊎ (unread s c k (expression_at m j) ≡ false)
     clear_or j h =
         let f = clean_falls m t.valid (unread s c k) in
         let g = clean_of m t.valid (unread s c k) (at targets k) (t.below k here) (target_clear s c m targets t k here) in
-        ⊎_elim inl (λ e. inr (clean_here m t.valid (unread s c k) j e)) (v.below some (clean m (unread s c k)) f g j h)
+        ⊎_elim inl (λ e. inr (clean_here m t.valid (unread s c k) j e)) (v.below (clean m (unread s c k)) f g j h)
 
     -- the ranks so far are all taken
     rank_later : (j : ℕ) → j < used m → used m ≤ at rank j → at rank' j < used m → done ≤ at rank' j
@@ -123,13 +124,13 @@ module _ (s : Shape) (c : ℕ) (m targets rank₀ rank : List ℕ) (done k : ℕ
         no b =
             let y = x.reached.walking.taken (at rank' j) b in
             let e = y.is in
-            let f = v.kept some y.id (omega arith) in
-            let g : j ≡ y.id = (v.walking some).alone j y.id l y.below h (omega arith) in
+            let f = v.kept y.id (omega arith) in
+            let g : j ≡ y.id = v.walking.alone j y.id l y.below h (omega arith) in
             let i : at rank j ≡ at rank y.id = ap (at rank) g in
             omega arith
 
     kept_target : (i : ℕ) → i < k → at rank' (at targets i) ≡ at rank (at targets i)
-    kept_target i l = v.kept some (at targets i) (x.reached.so_far i l)
+    kept_target i l = v.kept (at targets i) (x.reached.so_far i l)
 
     -- an item's expression was finished before
     first : (j i : ℕ) → j < used m → at rank' j < used m → source_of s (expression_at m j) ≡ Item i → at rank' (at targets i) < at rank' j
@@ -138,7 +139,7 @@ module _ (s : Shape) (c : ℕ) (m targets rank₀ rank : List ℕ) (done k : ℕ
         old : at rank j < used m → at rank' (at targets i) < at rank' j
         old b =
             let f = x.reached.item-first j i l b e in
-            let a = v.kept some j b in
+            let a = v.kept j b in
             let d = kept_target i (item_filled s c k (expression_at m j) (x.reached.reads j l b) i e) in
             omega arith
 
@@ -153,18 +154,14 @@ module _ (s : Shape) (c : ℕ) (m targets rank₀ rank : List ℕ) (done k : ℕ
 
     pub reaching_next : length rank' ≡ length rank → Reaching s c m targets rank₀ rank' more (k + 1)
     reaching_next q = record {
-      within = omega arith;
       same_length = q ∙ x.same_length;
       reached = record {
-        walking = v.walking some;
-        so_far = below_more (λ (i : ℕ). at rank' (at targets i) < used m) k (λ i l. let e = kept_target i l in let h = x.reached.so_far i l in omega arith) (v.here some);
+        walking = v.walking;
+        so_far = below_more (λ (i : ℕ). at rank' (at targets i) < used m) k (λ i l. let e = kept_target i l in let h = x.reached.so_far i l in omega arith) v.here;
         reads = λ j l h. unread_later s c k (expression_at m j) (⊎_elim (λ b. x.reached.reads j l b) (λ e. e) (clear_or j h));
         item-first = first;
       };
     }
-
-pub reaching_done : (s : Shape) (c : ℕ) (m targets rank₀ rank : List ℕ) (done k : ℕ) → Reaching s c m targets rank₀ rank done k → s.items ≤ k → Reached s c m targets rank done s.items
-reaching_done s c m targets rank₀ rank done k x l = let w = x.within in let e : k ≡ s.items = omega arith in rw e at x.reached
 
 -- THE LIST BY RANKS
 

@@ -4,7 +4,6 @@ use mathlib.Core.Path.{◌≡◌, refl, sym, ap, ◌∙◌}
 use mathlib.Core.Logic.{◌≢◌, ⊎_elim}
 use mathlib.Core.List.{List}
 use native.Mathlib.Numerals.{add-one}
-use native.Mathlib.Omega.{arith}
 use lib.ListN.{length, set, length-set}
 use lib.Seq.{get_or-set_other}
 use borrow.Author.Tests.{lt-ltb, le-ltb}
@@ -15,7 +14,7 @@ use Rattle.read.proofs.Values.{put_length, put_other}
 use Rattle.reading.specs.Calls.{triple_at}
 use Rattle.circuit.specs.Rank.{at}
 use Rattle.filler.specs.declared.run.Instruction.{Instruction}
-use Rattle.filler.specs.Running.{Values, instruction_at, word_of, triple_of, stepped, ran, Doable, Runnable}
+use Rattle.filler.specs.Running.{Values, instruction_at, word_of, triple_of, stepped, ran}
 
 -- one instruction: of a word, or of a triple
 module _ (x : Instruction) (main aux : List ℕ) (v : Values) where
@@ -66,33 +65,15 @@ module _ (plan main aux : List ℕ) (v : Values) where
       (a ∙ c, b ∙ d)
 
 -- so many are done
-pub record Running (plan : List ℕ) (many : ℕ) (main aux words₀ triples₀ words triples : List ℕ) (q : ℕ) : Type 0 where
-  pub within : q ≤ many
+pub record Running (plan main aux words₀ triples₀ words triples : List ℕ) (q : ℕ) : Type 0 where
   pub so_far : (words, triples) ≡ ran plan main aux q (words₀, triples₀)
 
-module _ (plan : List ℕ) (many : ℕ) (main aux words₀ triples₀ : List ℕ) where
-  pub running_start : Running plan many main aux words₀ triples₀ words₀ triples₀ 0
-  running_start = record { within = omega arith; so_far = sym (ran_none plan main aux (words₀, triples₀)) }
+module _ (plan main aux words₀ triples₀ : List ℕ) where
+  pub running_start : Running plan main aux words₀ triples₀ words₀ triples₀ 0
+  running_start = record { so_far = sym (ran_none plan main aux (words₀, triples₀)) }
 
-  module _ (words triples : List ℕ) (q : ℕ) (r : Running plan many main aux words₀ triples₀ words triples q) where
-    pub running_lengths : (length words ≡ length words₀) × (length triples ≡ length triples₀)
-    running_lengths =
-        let (a, b) = ran_lengths plan main aux (words₀, triples₀) q in
-        (ap (λ (v : Values). length v.0) r.so_far ∙ a, ap (λ (v : Values). length v.1) r.so_far ∙ b)
-
-    pub running_done : many ≤ q → (words, triples) ≡ ran plan main aux many (words₀, triples₀)
-    running_done h = let w = r.within in let e : q ≡ many = omega arith in r.so_far ∙ ap (λ (k : ℕ). ran plan main aux k (words₀, triples₀)) e
-
-    module _ (here : q < many) where
-      pub running_doable : Runnable plan many main aux words₀ triples₀ → (x : Instruction) → x ≡ instruction_at plan q → Doable x main aux words triples
-      running_doable able x e =
-          let (a, b) = running_lengths in
-          let rooms = able.rooms in
-          record { rooms = record { words_room = rw a rooms.words_room; triples_room = rw b rooms.triples_room }; sound = rw e (able.sound q here) }
-
-      pub running_next : (x : Instruction) → x ≡ instruction_at plan q → (words' triples' : List ℕ) → (words', triples') ≡ stepped x main aux (words, triples) → Running plan many main aux words₀ triples₀ words' triples' (q + 1)
-      running_next x e words' triples' h =
-          record {
-            within = omega arith;
-            so_far = h ∙ ap (λ (y : Instruction). stepped y main aux (words, triples)) e ∙ ap (stepped (instruction_at plan q) main aux) r.so_far ∙ sym (ran_next plan main aux (words₀, triples₀) q);
-          }
+  -- one more
+  pub running_next : (words triples : List ℕ) (q : ℕ) → Running plan main aux words₀ triples₀ words triples q → (x : Instruction) → x ≡ instruction_at plan q
+      → (words' triples' : List ℕ) → (words', triples') ≡ stepped x main aux (words, triples) → Running plan main aux words₀ triples₀ words' triples' (q + 1)
+  running_next words triples q r x e words' triples' h =
+      record { so_far = h ∙ ap (λ (y : Instruction). stepped y main aux (words, triples)) e ∙ ap (stepped (instruction_at plan q) main aux) r.so_far ∙ sym (ran_next plan main aux (words₀, triples₀) q) }

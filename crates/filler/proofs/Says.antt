@@ -1,9 +1,8 @@
 -- The filled row says an assignment: its old cells and the next row's are as lent, and each new cell holds its expression's value. Assumes nothing.
-use Rattle.std.specs.Prelude.{if◌then◌else◌}
+use Rattle.std.specs.Prelude.{if◌then◌else◌, Some}
 use Prim.Native.Nat.{ℕ, ◌+◌, ◌-◌, ◌*◌, ◌/◌, ◌<◌}
 use mathlib.Core.Path.{◌≡◌, refl, sym, ap, ◌∙◌}
 use mathlib.Core.Bool.{Bool, true, false}
-use mathlib.Core.Option.{some}
 use mathlib.Core.List.{List}
 use native.Mathlib.Omega.{arith}
 use lib.Dec.{ltb}
@@ -51,13 +50,13 @@ module _ (main_count aux_count row wide : ℕ) (m mains auxs challenges targets 
   pub new_main_lem : (k : ℕ) → k < length mains → lift (get_or filled.0 (main_count + k) 0) ≡ value (final main_count aux_count m mains auxs challenges main aux) (tree m (at targets k))
   new_main_lem k l =
       let (e, is, v) = holds.main_cells k l in
-      let same : e ≡ at targets k = let h : some e ≡ some (at targets k) = sym is ∙ found.of_main k l in cc in
+      let same : e ≡ at targets k = let h : Some e ≡ Some (at targets k) = sym is ∙ found.of_main k l in cc in
       v ∙ ap (λ (j : ℕ). value (final main_count aux_count m mains auxs challenges main aux) (tree m j)) same
 
   pub new_aux_lem : (k : ℕ) → k < length auxs → triple_at filled.1 (aux_count + k) ≡ value (final main_count aux_count m mains auxs challenges main aux) (tree m (at targets (length mains + k)))
   new_aux_lem k l =
       let (e, is, v) = holds.aux_cells k l in
-      let same : e ≡ at targets (length mains + k) = let h : some e ≡ some (at targets (length mains + k)) = sym is ∙ found.of_aux k l in cc in
+      let same : e ≡ at targets (length mains + k) = let h : Some e ≡ Some (at targets (length mains + k)) = sym is ∙ found.of_aux k l in cc in
       v ∙ ap (λ (j : ℕ). value (final main_count aux_count m mains auxs challenges main aux) (tree m j)) same
 
   -- the old ones

@@ -1,9 +1,9 @@
 -- Lists that have passed the tests: their expressions are nodes that can be worked out in the order of the items, in rows of this shape. Assumes nothing.
+use Rattle.std.specs.Prelude.{Some}
 use Prim.Native.Nat.{ℕ, ◌+◌, ◌-◌, ◌*◌, ◌/◌, ◌<◌, ◌≤◌}
 use mathlib.Core.Path.{◌≡◌, sym, ◌∙◌}
 use mathlib.Core.Logic.{⊎_elim}
 use mathlib.Core.Bool.{Bool, false}
-use mathlib.Core.Option.{some}
 use mathlib.Core.List.{List, ◌++◌}
 use native.Mathlib.Omega.{arith}
 use lib.Dec.{leb}
@@ -53,11 +53,11 @@ module _ (s : Shape) (m mains auxs challenges targets : List ℕ) (ok : RightLis
   inside : (q e : ℕ) → In q (mains ++ auxs) → ((t : ℕ → Bool) → any t (walk (tree m q)) ≡ false → any t (walk (tree m e)) ≡ false) → any (λ i. beyond s.row s.wide (length challenges / 3) (expression_at m i)) (walk (tree m e)) ≡ false
   inside q e k f = f _ (any_walks _ m (mains ++ auxs) ok.reads q k)
 
-  same_main : (k : ℕ) → k < length mains → (e : ℕ) → expression_of m (Main (s.main + k)) (at mains k) ≡ some e → e ≡ at targets k
-  same_main k l e h = let z : some e ≡ some (at targets k) = sym h ∙ ok.found.of_main k l in cc
+  same_main : (k : ℕ) → k < length mains → (e : ℕ) → expression_of m (Main (s.main + k)) (at mains k) ≡ Some e → e ≡ at targets k
+  same_main k l e h = let z : Some e ≡ Some (at targets k) = sym h ∙ ok.found.of_main k l in cc
 
-  same_aux : (k : ℕ) → k < length auxs → (e : ℕ) → expression_of m (Aux (s.aux + k)) (at auxs k) ≡ some e → e ≡ at targets (length mains + k)
-  same_aux k l e h = let z : some e ≡ some (at targets (length mains + k)) = sym h ∙ ok.found.of_aux k l in cc
+  same_aux : (k : ℕ) → k < length auxs → (e : ℕ) → expression_of m (Aux (s.aux + k)) (at auxs k) ≡ Some e → e ≡ at targets (length mains + k)
+  same_aux k l e h = let z : Some e ≡ Some (at targets (length mains + k)) = sym h ∙ ok.found.of_aux k l in cc
 
   pub passed_targeted : Targeted s (length challenges / 3) m targets
   passed_targeted =

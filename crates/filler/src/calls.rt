@@ -13,8 +13,7 @@ use circuit::place::HEADER;
 use fillable::given::{bad_given, filled_rows};
 use fillable::lowered::not_lowered;
 use fillable::rows::bad_rows;
-use filling::Filled;
-use layout::refusal::{BAD_ID, BAD_WORD, NOT_CIRCUIT, NOT_LOWERED, TABLE};
+use layout::refusal::Refusal;
 use paths::ids::bad_id;
 use read::base_test::bases;
 
@@ -39,9 +38,7 @@ fn fill_each(
     ensures { (main.new, aux.new) ≡ each_row (row_kind m.now) (row_filled s.main s.aux m.now mains.now auxs.now challenges.now) s.row (3 * s.wide) filled (main.old, aux.old) }
 {
     let kind = m[0];
-    let mut r: u64 = filled;
-    while r > 0 {
-        r -= 1;
+    for r in (0..filled).rev() {
         fill_row(
             plan, many, targets, bases, s, kind, r, main, aux, words, triples,
         );
@@ -127,7 +124,7 @@ fn fill_lowered(
     main: &mut [u64],
     aux: &mut [u64],
     challenges: &[u64],
-) -> Filled
+) -> Result<(), Refusal>
     requires { GivenTables main_count aux_count rows m.now order.now rank.now mains.now auxs.now challenges.now main.old aux.old }
     ensures { told_fill result (main.new, aux.new) ≡ fill_rows_call main_count aux_count m.now mains.now auxs.now challenges.now rows main.old aux.old }
 {
@@ -145,7 +142,7 @@ fn fill_lowered(
         &bits,
         &mut targets,
     ) {
-        return Filled::Refused(NOT_LOWERED);
+        return Err(Refusal::NotLowered);
     }
     let s = shape_of(mains, auxs, main_count, aux_count, rows, main, aux);
     let filled = filled_rows(m, rows);
@@ -161,7 +158,7 @@ fn fill_lowered(
         main,
         aux,
     );
-    Filled::Done
+    Ok(())
 }
 
 // Fills the new columns of rows that stand one after the other. A dual-row circuit reads the row after as the next row, and fills all but the last.
@@ -175,29 +172,26 @@ pub fn fill_rows(
     main: &mut [u64],
     aux: &mut [u64],
     challenges: &[u64],
-) -> Filled
+) -> Result<(), Refusal>
     ensures { told_fill result (main.new, aux.new) ≡ fill_rows_call main_count aux_count m.now mains.now auxs.now challenges.now rows main.old aux.old }
 {
     let mut order = [0u64; 4096];
     let mut rank = [0u64; 4096];
     if !check(m, &mut order, &mut rank) {
-        return Filled::Refused(NOT_CIRCUIT);
+        return Err(Refusal::NotCircuit);
     }
-    if bad_id(m, mains) {
-        return Filled::Refused(BAD_ID);
-    }
-    if bad_id(m, auxs) {
-        return Filled::Refused(BAD_ID);
+    if bad_id(m, mains) || bad_id(m, auxs) {
+        return Err(Refusal::BadId);
     }
     if bad_rows(
         m, &order, &rank, mains, auxs, main_count, aux_count, rows, main, aux, challenges,
     ) {
-        return Filled::Refused(TABLE);
+        return Err(Refusal::Table);
     }
     if bad_given(
         m, mains, auxs, main_count, aux_count, rows, main, aux, challenges,
     ) {
-        return Filled::Refused(BAD_WORD);
+        return Err(Refusal::BadWord);
     }
     fill_lowered(
         m, &order, &rank, mains, auxs, main_count, aux_count, rows, main, aux, challenges,
@@ -214,11 +208,11 @@ pub fn fill(
     main: &mut [u64],
     aux: &mut [u64],
     challenges: &[u64],
-) -> Filled
+) -> Result<(), Refusal>
     ensures { told_fill result (main.new, aux.new) ≡ fill_call main_count aux_count m.now mains.now auxs.now challenges.now main.old aux.old }
 {
     if m.len() < HEADER {
-        return Filled::Refused(NOT_CIRCUIT);
+        return Err(Refusal::NotCircuit);
     }
     fill_rows(
         m, mains, auxs, main_count, aux_count, m[0], main, aux, challenges,

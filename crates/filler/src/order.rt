@@ -16,11 +16,9 @@ fn rank_targets(m: &[u64], targets: &[u64], challenges: &[u64], s: Shape, rank: 
     let n = m[1];
     unfinish(rank, n);
     let mut done: u64 = 0;
-    let mut k: u64 = 0;
-    while k < s.items {
-        let i = targets[k as usize];
-        done = visit(m, rank, i, done, n);
-        k += 1;
+    for &i in &targets[..s.items as usize] {
+        // The paths of a circuit end.
+        done = visit(m, rank, i, done, n).unwrap();
     }
     done
 }
@@ -30,15 +28,10 @@ fn list_ranked(rank: &[u64], order: &mut [u64], n: u64)
     requires { Apart rank.now n × ((n ≤ length order.old) × (n ≤ length rank.now)) }
     ensures { ByRank order.new rank.now n }
 {
-    let mut i: u64 = 0;
-    while i < n {
-        let node = i as usize;
-        let q = rank[node];
+    for (i, &q) in rank[..n as usize].iter().enumerate() {
         if q < n {
-            let place = q as usize;
-            order[place] = i;
+            order[q as usize] = i as u64;
         }
-        i += 1;
     }
 }
 

@@ -216,14 +216,10 @@ pub(crate) fn make_plan(
     ensures { Planned s m.now bases.now targets.now challenges.now order.now rank.now alias.new plan.new done result }
 {
     let mut many: u64 = 0;
-    let mut q: u64 = 0;
-    while q < done {
-        let i = order[q as usize];
+    for &i in &order[..done as usize] {
         let x = plan_node(m, bases, targets, alias, s, i);
-        let node = i as usize;
-        alias[node] = x.to;
+        alias[i as usize] = x.to;
         many = push(plan, many, x);
-        q += 1;
     }
     many
 }

@@ -35,11 +35,8 @@ pub(crate) fn fix(m: &[u64], challenges: &[u64], words: &mut [u64], triples: &mu
     requires { (not_circuit m.now ≡ false) × Roomy words.old triples.old }
     ensures { Ready m.now challenges.now (words.new, triples.new) }
 {
-    let n = m[1];
-    let mut i: u64 = 0;
-    while i < n {
+    for i in 0..m[1] {
         fix_node(expression_at(m, i), i, challenges, words, triples);
-        i += 1;
     }
 }
 
@@ -48,12 +45,8 @@ fn resolve(targets: &mut [u64], alias: &[u64], items: u64)
     requires { (items ≤ length targets.old) × ((k : ℕ) → k < items → at targets.old k < length alias.now) }
     ensures { Resolved targets.old alias.now targets.new items }
 {
-    let mut k: u64 = 0;
-    while k < items {
-        let place = k as usize;
-        let node = targets[place] as usize;
-        targets[place] = alias[node];
-        k += 1;
+    for t in &mut targets[..items as usize] {
+        *t = alias[*t as usize];
     }
 }
 

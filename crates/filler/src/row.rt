@@ -18,12 +18,8 @@ fn store_words(part: &mut [u64], targets: &[u64], many: u64, words: &[u64])
     requires { (many ≤ length part.old) × ((many ≤ length targets.now) × ((k : ℕ) → k < many → at targets.now k < length words.now)) }
     ensures { part.new ≡ sets part.old 0 (words_for words.now targets.now many) }
 {
-    let mut k: u64 = 0;
-    while k < many {
-        let place = k as usize;
-        let entry = targets[place] as usize;
-        part[place] = words[entry];
-        k += 1;
+    for (k, &t) in targets[..many as usize].iter().enumerate() {
+        part[k] = words[t as usize];
     }
 }
 
@@ -52,12 +48,9 @@ fn store_triples(
     requires { (3 * many ≤ length part.old) × ((from + many ≤ length targets.now) × ((k : ℕ) → k < from + many → (at targets.now k < length bases.now) × ((at targets.now k < length words.now) × (3 * at targets.now k + 2 < length triples.now)))) }
     ensures { part.new ≡ sets part.old 0 (triples_for bases.now (words.now, triples.now) targets.now from many) }
 {
-    let mut k: u64 = 0;
-    while k < many {
-        let place = (from + k) as usize;
-        let x = triple_for(bases, words, triples, targets[place]);
+    for k in 0..many {
+        let x = triple_for(bases, words, triples, targets[(from + k) as usize]);
         keep(part, k, x);
-        k += 1;
     }
 }
 

@@ -108,10 +108,7 @@ pub(crate) fn run(
     requires { Runnable plan.now many main.now aux.now words.old triples.old }
     ensures { (words.new, triples.new) ≡ ran plan.now main.now aux.now many (words.old, triples.old) }
 {
-    let mut q: u64 = 0;
-    while q < many {
-        let x = instruction_at(plan, q);
-        step(x, main, aux, words, triples);
-        q += 1;
+    for q in 0..many {
+        step(instruction_at(plan, q), main, aux, words, triples);
     }
 }

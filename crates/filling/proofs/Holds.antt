@@ -1,8 +1,8 @@
 -- The filled row, where the lists are right and the row has room: each new cell holds its expression's value, whatever the given words are. Assumes nothing.
+use Rattle.std.specs.Prelude.{Option, Some}
 use Prim.Native.Nat.{ℕ, zero, suc, ◌+◌, ◌*◌, ◌/◌, ◌<◌, ◌≤◌}
 use mathlib.Core.Path.{◌≡◌, refl, sym, ◌∙◌, ap}
 use mathlib.Core.Bool.{false}
-use mathlib.Core.Option.{Option, some}
 use mathlib.Core.List.{List, [], ◌∷◌}
 use native.Mathlib.Omega.{arith}
 use lib.ListN.{length, get_or}
@@ -23,7 +23,7 @@ use Rattle.filling.proofs.Fills.{written_aux, aux_agrees, settled_main_lem, sett
 
 -- a column's cell, by its place in the list
 main_at_lem : (b : ℕ) (m : List ℕ) (s : Assignment) (qs : List ℕ) (c : ℕ) → mains_wrong b m c qs ≡ false → SettledMain s m c qs → (k : ℕ) → k < length qs
-    → (e : ℕ) × (expression_of m (Main (c + k)) (get_or qs k 0) ≡ some e) × (lift (s.main (c + k)) ≡ value s (tree m e))
+    → (e : ℕ) × (expression_of m (Main (c + k)) (get_or qs k 0) ≡ Some e) × (lift (s.main (c + k)) ≡ value s (tree m e))
 main_at_lem b m s [] c h x k l = absurd (omega arith)
 main_at_lem b m s (q ∷ qs) c h (x, xs) zero l =
     let (right, rest) = mains_head b m c q qs h in
@@ -34,7 +34,7 @@ main_at_lem b m s (q ∷ qs) c h (x, xs) (suc k) l =
     rw next (main_at_lem b m s qs (suc c) (mains_head b m c q qs h).1 xs k (omega arith))
 
 aux_at_lem : (a : ℕ) (m : List ℕ) (s : Assignment) (qs : List ℕ) (c : ℕ) → auxs_wrong a m c qs ≡ false → SettledAux s m c qs → (k : ℕ) → k < length qs
-    → (e : ℕ) × (expression_of m (Aux (c + k)) (get_or qs k 0) ≡ some e) × (s.aux (c + k) ≡ value s (tree m e))
+    → (e : ℕ) × (expression_of m (Aux (c + k)) (get_or qs k 0) ≡ Some e) × (s.aux (c + k) ≡ value s (tree m e))
 aux_at_lem a m s [] c h x k l = absurd (omega arith)
 aux_at_lem a m s (q ∷ qs) c h (x, xs) zero l =
     let (right, rest) = auxs_head a m c q qs h in

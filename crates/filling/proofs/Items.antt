@@ -1,9 +1,8 @@
 -- A listed node that gives its column an expression is worth the column plus -1 times that expression. Assumes nothing.
-use Rattle.std.specs.Prelude.{if◌then◌else◌}
+use Rattle.std.specs.Prelude.{if◌then◌else◌, Option, None, Some}
 use Prim.Native.Nat.{ℕ, ◌<◌}
 use mathlib.Core.Path.{◌≡◌, refl, sym, ◌∙◌, ap, ap₂}
 use mathlib.Core.Bool.{Bool, true, false}
-use mathlib.Core.Option.{Option, none, some}
 use mathlib.Core.List.{List, ◌∷◌}
 use native.Mathlib.Omega.{arith}
 use lib.Dec.{eqb}
@@ -34,7 +33,7 @@ pub no : {A : Type 0} → ◌≡◌ {A = ℕ} 0 1 → A
 no h = absurd (omega arith)
 
 -- one test out of an if
-pub by_if : {A : Type 0} (b : Bool) (x y : Option ℕ) (e : ℕ) → (if b then x else y) ≡ some e → (b ≡ true → x ≡ some e → A) → (b ≡ false → y ≡ some e → A) → A
+pub by_if : {A : Type 0} (b : Bool) (x y : Option ℕ) (e : ℕ) → (if b then x else y) ≡ Some e → (b ≡ true → x ≡ Some e → A) → (b ≡ false → y ≡ Some e → A) → A
 by_if true x y e h f g = f refl h
 by_if false x y e h f g = g refl h
 
@@ -132,7 +131,7 @@ module _ (m : List ℕ) (valid : not_circuit m ≡ false) where
       (a, (neither (t i) (any t (walk (tree m r))) b).1)
 
   -- -1 times an expression
-  minus_value : (i : ℕ) → i < used m → (x : Expression) → expression_at m i ≡ x → (e : ℕ) → minus_times m x ≡ some e
+  minus_value : (i : ℕ) → i < used m → (x : Expression) → expression_at m i ≡ x → (e : ℕ) → minus_times m x ≡ Some e
       → (e < used m) × ((s : Assignment) → value s (tree m i) ≡ times (lift minus_one) (value s (tree m e))) × (is_base (tree m e) ≡ true → is_base (tree m i) ≡ true)
       × ((t : ℕ → Bool) → any t (walk (tree m i)) ≡ false → any t (walk (tree m e)) ≡ false)
   minus_value i here (Base w) q e h = no cc
@@ -142,19 +141,19 @@ module _ (m : List ℕ) (valid : not_circuit m ≡ false) where
   minus_value i here (Input y) q e h = no cc
   minus_value i here (Operation Multiply l r) q e h =
       let (hl, hr) = valid_operands m valid i here Multiply l r q in
-      by_if (is_constant minus_one m l) (some r) (if is_constant minus_one m r then some l else none) e h
+      by_if (is_constant minus_one m l) (Some r) (if is_constant minus_one m r then Some l else None) e h
       (λ k z.
       let eq : r ≡ e = cc in
       (rw (← eq) hr, λ s. operation_value i here Multiply l r q s ∙ ap₂ times (constant_value minus_one l hl k s) (ap (λ (j : ℕ). value s (tree m j)) eq), λ b. operation_base i here Multiply l r q (constant_base minus_one l hl k) (ap (λ (j : ℕ). is_base (tree m j)) eq ∙ b), λ t n. ap (λ (j : ℕ). any t (walk (tree m j))) (sym eq) ∙ (operation-reads i here Multiply l r q t n).1))
       (λ k z.
-      by_if (is_constant minus_one m r) (some l) none e z
+      by_if (is_constant minus_one m r) (Some l) None e z
       (λ k' z'.
       let eq : l ≡ e = cc in
       (rw (← eq) hl, λ s. operation_value i here Multiply l r q s ∙ times_comm _ _ ∙ ap₂ times (constant_value minus_one r hr k' s) (ap (λ (j : ℕ). value s (tree m j)) eq), λ b. operation_base i here Multiply l r q (ap (λ (j : ℕ). is_base (tree m j)) eq ∙ b) (constant_base minus_one r hr k'), λ t n. ap (λ (j : ℕ). any t (walk (tree m j))) (sym eq) ∙ (operation-reads i here Multiply l r q t n).0))
       (λ k' z'. no cc))
 
   -- the column plus that
-  column_value : (y : Position) (i : ℕ) → i < used m → (x : Expression) → expression_at m i ≡ x → (e : ℕ) → column_plus m y x ≡ some e → Item m y i e
+  column_value : (y : Position) (i : ℕ) → i < used m → (x : Expression) → expression_at m i ≡ x → (e : ℕ) → column_plus m y x ≡ Some e → Item m y i e
   column_value y i here (Base w) q e h = no cc
   column_value y i here (Extension x) q e h = no cc
   column_value y i here (Challenge k) q e h = no cc
@@ -162,17 +161,17 @@ module _ (m : List ℕ) (valid : not_circuit m ≡ false) where
   column_value y i here (Input x) q e h = no cc
   column_value y i here (Operation Add l r) q e h =
       let (hl, hr) = valid_operands m valid i here Add l r q in
-      by_if (is_input m y l) (minus_times m (expression_at m r)) (if is_input m y r then minus_times m (expression_at m l) else none) e h
+      by_if (is_input m y l) (minus_times m (expression_at m r)) (if is_input m y r then minus_times m (expression_at m l) else None) e h
       (λ k z.
       let (below, eq, base, reads) = minus_value r hr (expression_at m r) refl e z in
       record { here = below; worth = λ s. operation_value i here Add l r q s ∙ ap₂ plus (input_value_lem y l hl k s) (eq s); reads = λ t n. reads t (operation-reads i here Add l r q t n).1; base = λ a b. operation_base i here Add l r q (input_base y l hl k a) (base b) })
       (λ k z.
-      by_if (is_input m y r) (minus_times m (expression_at m l)) none e z
+      by_if (is_input m y r) (minus_times m (expression_at m l)) None e z
       (λ k' z'.
       let (below, eq, base, reads) = minus_value l hl (expression_at m l) refl e z' in
       record { here = below; worth = λ s. operation_value i here Add l r q s ∙ plus_comm _ _ ∙ ap₂ plus (input_value_lem y r hr k' s) (eq s); reads = λ t n. reads t (operation-reads i here Add l r q t n).0; base = λ a b. operation_base i here Add l r q (base b) (input_base y r hr k' a) })
       (λ k' z'. no cc))
 
-  pub item : (y : Position) (q : ℕ) → q < used m → (e : ℕ) → expression_of m y q ≡ some e → Item m y q e
+  pub item : (y : Position) (q : ℕ) → q < used m → (e : ℕ) → expression_of m y q ≡ Some e → Item m y q e
   unfolding expression_of
   item y q here e h = column_value y q here (expression_at m q) refl e h

@@ -1,6 +1,5 @@
 -- The public calls that fill the new columns, of one row and of many. Assumes nothing.
-use Rattle.std.specs.Prelude.{ℕ, zero, suc, ◌-◌, ◌*◌, ◌/◌, List, [], ◌∷◌, ◌++◌, length, set, take, drop, replicate}
-use Rattle.std.proofs.Math.Option.{Option, none, some}
+use Rattle.std.specs.Prelude.{ℕ, zero, suc, ◌-◌, ◌*◌, ◌/◌, List, [], ◌∷◌, ◌++◌, length, set, take, drop, replicate, Option, None, Some}
 use Rattle.std.proofs.lemmas.List.Edits.{sets}
 use Rattle.arithmetic.specs.declared.Triple.{Triple}
 use Rattle.arithmetic.specs.Extension.{lift}
@@ -17,8 +16,8 @@ use Rattle.filling.specs.Refusals.{bad_rows, not_lowered}
 
 -- the value that a column gets
 abbrev pub worth : Assignment → List ℕ → Option ℕ → Triple
-worth s m none = lift 0
-worth s m (some e) = value s (tree m e)
+worth s m None = lift 0
+worth s m (Some e) = value s (tree m e)
 
 -- each new main value, from the column c on, with those before it in the row
 unfoldable pub main_filled : List ℕ → List ℕ → List ℕ → ℕ → List ℕ → List ℕ → List ℕ

@@ -1,7 +1,6 @@
 -- What an accepted fill promises, of any lists: only the new cells are written, each holds the value of its expression, every listed constraint is zero,
 -- and no other words in the new cells do that. Assumes nothing.
-use Rattle.std.specs.Prelude.{ℕ, suc, ◌+◌, ◌-◌, ◌*◌, ◌/◌, ◌≤◌, ◌<◌, ◌≡◌, false, List, [], ◌++◌, length, get_or, take, drop}
-use Rattle.std.proofs.Math.Option.{some}
+use Rattle.std.specs.Prelude.{ℕ, suc, ◌+◌, ◌-◌, ◌*◌, ◌/◌, ◌≤◌, ◌<◌, ◌≡◌, false, List, [], ◌++◌, length, get_or, take, drop, Some}
 use Rattle.std.proofs.lemmas.List.Edits.{sets}
 use Rattle.arithmetic.specs.Extension.{lift}
 use Rattle.layout.specs.declared.node.Position.TheVariants.{Main, Aux}
@@ -38,9 +37,9 @@ module _ (main_count aux_count : ℕ) (m mains auxs challenges : List ℕ) where
   -- each new cell of these tables holds the value of its expression under them
   pub record Holds (main aux : List ℕ) : Type 0 where
     pub main_cells : (k : ℕ) → k < length mains
-        → (e : ℕ) × (expression_of m (Main (main_count + k)) (get_or mains k 0) ≡ some e) × (lift (get_or main (main_count + k) 0) ≡ value (assigned main aux challenges) (tree m e))
+        → (e : ℕ) × (expression_of m (Main (main_count + k)) (get_or mains k 0) ≡ Some e) × (lift (get_or main (main_count + k) 0) ≡ value (assigned main aux challenges) (tree m e))
     pub aux_cells : (k : ℕ) → k < length auxs
-        → (e : ℕ) × (expression_of m (Aux (aux_count + k)) (get_or auxs k 0) ≡ some e) × (triple_at aux (aux_count + k) ≡ value (assigned main aux challenges) (tree m e))
+        → (e : ℕ) × (expression_of m (Aux (aux_count + k)) (get_or auxs k 0) ≡ Some e) × (triple_at aux (aux_count + k) ≡ value (assigned main aux challenges) (tree m e))
 
   -- the tables before and after
   pub record Solves (main aux main' aux' : List ℕ) : Type 0 where

@@ -1,6 +1,5 @@
 -- The conditions of fill's own refusals, by their numbers. The tables hold so many rows, one after the other. Assumes nothing.
-use Rattle.std.specs.Prelude.{ℕ, suc, ◌+◌, ◌*◌, ◌/◌, ◌%◌, Bool, true, false, ◌&&◌, ◌||◌, not, List, [], ◌∷◌, ◌++◌, length, ltb, leb, eqb, if◌then◌else◌}
-use Rattle.std.proofs.Math.Option.{Option, none, some}
+use Rattle.std.specs.Prelude.{ℕ, suc, ◌+◌, ◌*◌, ◌/◌, ◌%◌, Bool, true, false, ◌&&◌, ◌||◌, not, List, [], ◌∷◌, ◌++◌, length, ltb, leb, eqb, if◌then◌else◌, Option, None, Some}
 use Rattle.layout.specs.declared.node.Position.TheVariants.{Main, Aux}
 use Rattle.layout.specs.declared.node.Expression.{Expression}
 use Rattle.layout.specs.declared.node.Expression.TheVariants.{Base, Extension, Challenge, Operation, Input}
@@ -31,13 +30,13 @@ bad_rows rows main_count aux_count m mains auxs main aux challenges =
 
 -- 17, of a main node: no such expression, one that reads an unfilled current-row column, or one that fails the base test
 abbrev pub wrong_main : ℕ → ℕ → List ℕ → Option ℕ → Bool
-wrong_main a b m none = true
-wrong_main a b m (some e) = reads_unfilled a b m e || not (is_base (tree m e))
+wrong_main a b m None = true
+wrong_main a b m (Some e) = reads_unfilled a b m e || not (is_base (tree m e))
 
 -- of an auxiliary node
 abbrev pub wrong_aux : ℕ → ℕ → List ℕ → Option ℕ → Bool
-wrong_aux a b m none = true
-wrong_aux a b m (some e) = reads_unfilled a b m e
+wrong_aux a b m None = true
+wrong_aux a b m (Some e) = reads_unfilled a b m e
 
 -- of the main list; c is the column that is filled next
 unfoldable pub mains_wrong : ℕ → List ℕ → ℕ → List ℕ → Bool

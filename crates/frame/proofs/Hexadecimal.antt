@@ -1,16 +1,16 @@
 -- Laws of hexadecimal: which numbers are digits, a line's bytes by their place, and how large numbers are. Assumes nothing.
 use Prim.Native.Nat.{ℕ, zero, suc, ◌+◌, ◌-◌, ◌*◌, ◌^◌, ◌<◌, ◌≤◌}
-use mathlib.Core.Path.{◌≡◌, refl, sym, ap, ◌∙◌}
+use mathlib.Core.Path.{◌≡◌, refl, ap, ◌∙◌}
 use mathlib.Core.Bool.{Bool, true, false, ◌&&◌, ◌||◌}
 use mathlib.Core.List.{List, [], ◌∷◌}
 use native.Mathlib.Omega.{arith}
 use native.Mathlib.Nat.{pow-le-pow_right, pow-succ'}
 use native.Mathlib.Numerals.{add-one}
-use lib.ListN.{length, get_or, drop, drop_of_length-le}
-use lib.Seq.{drop-cons}
+use lib.ListN.{length, get_or}
 use lib.Dec.{leb}
 use borrow.Author.Tests.{lt-ltb, le-ltb, le-leb, lt-leb, leb-true, leb-false}
 use Rattle.layout.specs.Lists.{all}
+use Rattle.std.specs.List.{list_all}
 use Rattle.layout.proofs.Lists.{clash}
 use Rattle.framing.specs.Digits.{is_digit, digit, bytes_of, number_at, character}
 
@@ -116,19 +116,11 @@ number_fits line after k h =
     let t : 256 ^ k ≤ 256 ^ 7 = pow-le-pow_right {n = 256} (omega arith) {i = k} {j = 7} (omega arith) in
     omega (arith, number_below line after k, t)
 
--- all of a list pass: one after the other
-module _ (p : ℕ → Bool) (xs : List ℕ) (k : ℕ) where
-  pub all_here : k < length xs → p (get_or xs k 0) ≡ false → all p (drop k xs) ≡ all p xs → false ≡ all p xs
-  unfolding all
-  all_here h f e = sym (ap (λ (y : Bool). y && all p (drop (suc k) xs)) f) ∙ sym (ap (all p) (drop-cons xs k 0 h)) ∙ e
-
-  pub all_next : k < length xs → p (get_or xs k 0) ≡ true → all p (drop k xs) ≡ all p xs → all p (drop (k + 1) xs) ≡ all p xs
-  unfolding all
-  all_next h f e = rw (add-one k) (sym (ap (λ (y : Bool). y && all p (drop (suc k) xs)) f) ∙ sym (ap (all p) (drop-cons xs k 0 h)) ∙ e)
-
-  pub all_done : length xs ≤ k → all p (drop k xs) ≡ all p xs → true ≡ all p xs
-  unfolding all
-  all_done h e = sym (ap (all p) (drop_of_length-le xs h)) ∙ e
+-- the library's word for it
+pub all_is : (p : ℕ → Bool) (xs : List ℕ) → list_all p xs ≡ all p xs
+unfolding all
+all_is p [] = refl
+all_is p (x ∷ xs) = ap (λ (b : Bool). p x && b) (all_is p xs)
 
 -- the digit of a value
 pub low_character : (d : ℕ) → d < 10 → 48 + d ≡ character d

@@ -1,5 +1,5 @@
 -- Laws of what a request does: each call's answer is a reply, and a number picks its case. Assumes nothing.
-use Rattle.std.specs.Prelude.{if◌then◌else◌}
+use Rattle.std.specs.Prelude.{if◌then◌else◌, Result, Ok, Err}
 use Prim.Native.Nat.{ℕ, ◌+◌, ◌-◌, ◌<◌, ◌≤◌}
 use mathlib.Core.Path.{◌≡◌, refl, sym, ap, ◌∙◌}
 use mathlib.Core.Bool.{true, false, not}
@@ -10,20 +10,17 @@ use lib.Seq.{sets, sets-eq, take-nil, length-take-le, drop-drop}
 use lib.Dec.{eqb}
 use borrow.Author.Tests.{eq-eqb, ne_eqb}
 use borrow.Rule.Slice.PartMut.{mid_of, put_mid}
+use Rattle.layout.specs.declared.refusal.Refusal.{Refusal}
+use Rattle.layout.specs.Refusals.{number_of}
+use Rattle.layout.proofs.Unique.{number_some}
 use Rattle.layout.specs.declared.node.RowKind.{RowKind}
-use Rattle.layout.specs.declared.answer.Started.{Started}
-use Rattle.layout.specs.declared.answer.Started.TheVariants as started
 use Rattle.layout.specs.Words.{row_kind, used}
 use Rattle.layout.specs.NotCircuit.{bad_id}
 use Rattle.layout.specs.Outcomes.{Outcome}
 use Rattle.layout.specs.Calls.{start_call}
-use Rattle.layout.specs.Answers.{told_start}
+use Rattle.layout.specs.Answers.{told_start, answer_number}
 use Rattle.layout.proofs.Refusals.{refusal_here, refusal_next, refusal_none, bad_id_here, bad_id_next, no_bad_id}
-use Rattle.building.specs.declared.Answer.{Answer}
-use Rattle.building.specs.declared.Answer.TheVariants as answer
 use Rattle.building.specs.Told.{told_id}
-use Rattle.lowering.specs.declared.Lowered.{Lowered}
-use Rattle.lowering.specs.declared.Lowered.TheVariants as lowered
 use Rattle.lowering.specs.Calls.{lower_call}
 use Rattle.lower.specs.Told.{told_lowering}
 use Rattle.framing.specs.declared.Reply.{Reply}
@@ -32,7 +29,7 @@ use Rattle.framing.specs.declared.Request.{Request}
 use Rattle.framing.specs.Digits.{hexadecimal}
 use Rattle.framing.specs.Requests.{request_of}
 use Rattle.framing.specs.States.{State, lent, root_room, root_count, roots_of, with_root, without_roots}
-use Rattle.framing.specs.Answers.{Replied, told, bare, FRAME, id_answer, id_reply, start_number, start_as, start_answer, input_answer, root_answer, lower_answer, answered, is_start, in_time, replied, reply_bytes, counts_reply}
+use Rattle.framing.specs.Answers.{Replied, told, bare, FRAME, id_answer, id_reply, start_as, start_answer, input_answer, root_answer, lower_answer, answered, is_start, in_time, replied, reply_bytes, counts_reply}
 use Rattle.framing.specs.Frames.{line_answer, answer_line, framed, frame_call}
 use Rattle.frame.specs.Puts.{Put}
 use Rattle.frame.proofs.Reading.{Not}
@@ -48,26 +45,24 @@ module _ (m rs main aux : List ℕ) where
   in_time_after request k is e = sym (rw (ne_eqb (row_kind m) 0 (λ z. e (is ∙ z))))
 
   -- a call's answer, as a reply
-  pub id_told : (o : Outcome ℕ (List ℕ)) (a : Answer) (r : Reply) (m' : List ℕ) → r ≡ id_reply a → told_id a m' ≡ o → told r m' rs main aux ≡ id_answer (lent m rs main aux) o
+  pub id_told : (o : Outcome ℕ (List ℕ)) (a : Result ℕ Refusal) (r : Reply) (m' : List ℕ) → r ≡ id_reply a → told_id a m' ≡ o → told r m' rs main aux ≡ id_answer (lent m rs main aux) o
   unfolding id_answer
-  id_told o (answer.Id i) r m' is e = rw (is, ← e)
-  id_told o (answer.Refused k) r m' is e = rw (is, ← e)
+  id_told o (Ok i) r m' is e = rw (is, ← e)
+  id_told o (Err k) r m' is e = rw (is, ← e)
 
   -- a start's
-  pub start_told : (kind : RowKind) (a : Started) (m' : List ℕ) → told_start a m' ≡ start_call m kind
-      → told (Bare (start_number a)) m' (if eqb (start_number a) 0 then without_roots rs else rs) main aux ≡ start_as (lent m rs main aux) kind
+  pub start_told : (kind : RowKind) (a : Result (Unit {0}) Refusal) (m' : List ℕ) → told_start a m' ≡ start_call m kind
+      → told (Bare (answer_number a)) m' (if eqb (answer_number a) 0 then without_roots rs else rs) main aux ≡ start_as (lent m rs main aux) kind
   unfolding start_as
-  start_told kind started.Fresh m' e = rw (← e)
-  start_told kind (started.Refused k) m' e = rw (← e)
+  start_told kind (Ok u) m' e = rw (← e)
+  start_told kind (Err k) m' e = rw (← e)
 
-  module _ (kind : RowKind) (a : Started) (n : ℕ) (m' : List ℕ) (is : n ≡ start_number a) (call : told_start a m' ≡ start_call m kind) where
-    pub start_cleared : (rs' : List ℕ) → n ≡ 0 → rs' ≡ without_roots rs → told (Bare 0) m' rs' main aux ≡ start_as (lent m rs main aux) kind
-    start_cleared rs' z c =
-        let e : start_number a ≡ 0 = sym is ∙ z in
-        rw c (rw e at (start_told kind a m' call))
+  module _ (kind : RowKind) (a : Result (Unit {0}) Refusal) (m' : List ℕ) (call : told_start a m' ≡ start_call m kind) where
+    pub start_cleared : (u : Unit {0}) (rs' : List ℕ) → a ≡ Ok u → rs' ≡ without_roots rs → told (Bare 0) m' rs' main aux ≡ start_as (lent m rs main aux) kind
+    start_cleared u rs' is c = rw c (rw is at (start_told kind a m' call))
 
-    pub start_refused : Not n 0 → told (Bare n) m' rs main aux ≡ start_as (lent m rs main aux) kind
-    start_refused h = rw is (rw (ne_eqb (start_number a) 0 (λ z. h (is ∙ z))) at (start_told kind a m' call))
+    pub start_refused : (r : Refusal) → a ≡ Err r → told (Bare (number_of r)) m' rs main aux ≡ start_as (lent m rs main aux) kind
+    start_refused r is = rw (ne_eqb (number_of r) 0 (λ z. number_some r (sym z))) at (rw is at (start_told kind a m' call))
 
   -- kind
   pub start_picked : (k kind : ℕ) (x : Replied) → kind ≡ k → x ≡ start_answer (lent m rs main aux) k → x ≡ start_answer (lent m rs main aux) kind
@@ -114,14 +109,14 @@ room_left rs n k a b e = omega (arith, a, b, e)
 
 -- a lowering's answer, as a reply; the roots are written back where they stand
 module _ (target main_count aux_count : ℕ) (m main aux : List ℕ) where
-  pub lower_told : (rs : List ℕ) (a : Lowered) (r : Reply) (m' ids main' aux' rs' : List ℕ) → r ≡ counts_reply a
+  pub lower_told : (rs : List ℕ) (a : Result (ℕ × ℕ) Refusal) (r : Reply) (m' ids main' aux' rs' : List ℕ) → r ≡ counts_reply a
       → told_lowering a (record { circuit = m'; roots = ids; main = main'; aux = aux' }) ≡ lower_call target main_count aux_count (record { circuit = m; roots = roots_of rs; main = main; aux = aux })
       → rs' ≡ sets rs 1 ids → told r m' rs' main' aux' ≡ lower_answer (lent m rs main aux) target main_count aux_count
   unfolding lower_answer
-  lower_told rs (lowered.Counts a b) r m' ids main' aux' rs' is e w = rw (is, w, ← e)
-  lower_told rs (lowered.Refused k) r m' ids main' aux' rs' is e w = rw (is, w, ← e)
+  lower_told rs (Ok (a, b)) r m' ids main' aux' rs' is e w = rw (is, w, ← e)
+  lower_told rs (Err k) r m' ids main' aux' rs' is e w = rw (is, w, ← e)
 
-  pub lower_empty : (rs : List ℕ) (a : Lowered) (r : Reply) (m' rs' main' aux' : List ℕ) → r ≡ counts_reply a → length rs ≡ 0 → length rs' ≡ length rs
+  pub lower_empty : (rs : List ℕ) (a : Result (ℕ × ℕ) Refusal) (r : Reply) (m' rs' main' aux' : List ℕ) → r ≡ counts_reply a → length rs ≡ 0 → length rs' ≡ length rs
       → told_lowering a (record { circuit = m'; roots = rs'; main = main'; aux = aux' }) ≡ lower_call target main_count aux_count (record { circuit = m; roots = rs; main = main; aux = aux })
       → told r m' rs' main' aux' ≡ lower_answer (lent m rs main aux) target main_count aux_count
   unfolding roots_of

@@ -9,7 +9,7 @@ use native.Mathlib.Numerals.{add-one}
 use native.Mathlib.Omega.{arith}
 use lib.Dec.{eqb}
 use lib.ListN.{length, get_or, set, take, length-append, length-take}
-use lib.Seq.{sets, set_out, take-suc, take_all, length-take-le}
+use lib.Seq.{sets, set_out, take-suc, length-take-le}
 use borrow.Author.Tests.{eq-eqb, ne_eqb}
 use Rattle.framing.specs.Digits.{character, hexadecimal, two, twos}
 use Rattle.framing.specs.declared.Reply.{Reply}
@@ -91,16 +91,6 @@ module _ (l : List ℕ) (at : ℕ) (ids : List ℕ) where
         ap (λ (t : List ℕ). ids_text (take k ids) ++ t) (id_text (get_or ids k 0)) ∙ sym (ids_append (take k ids) (get_or ids k 0 ∷ []))
         ∙ sym (ap ids_text (ap (λ (q : ℕ). take q ids) (add-one k) ∙ take-suc ids k 0 h)) in
         rw e at (put_then put more)
-
-    pub ids_counted : (n : ℕ) → k ≤ n → n ≤ k → Put l at (ids_text (take n ids)) l' next
-    ids_counted n a b =
-        let e : k ≡ n = omega arith in
-        rw e at put
-
-    pub ids_all : (n : ℕ) → k ≤ n → length ids ≤ k → Put l at (ids_text (take n ids)) l' next
-    ids_all n a b =
-        let e : take k ids ≡ take n ids = take_all k ids b ∙ sym (take_all n ids (omega arith)) in
-        rw e at put
 
 pub two_behind : (n : ℕ) {l l' : List ℕ} {at k : ℕ} → Put l at (hexadecimal (two n)) l' k → k ≡ at + 4
 unfolding hexadecimal two

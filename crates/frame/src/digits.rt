@@ -22,14 +22,7 @@ fn is_digit(c: u8) -> bool
 pub fn all_digits(line: &[u8]) -> bool
     ensures { result ≡ all is_digit line.now }
 {
-    let mut i: usize = 0;
-    while i < line.len() {
-        if !is_digit(line[i]) {
-            return false;
-        }
-        i += 1;
-    }
-    true
+    line.iter().all(|&c| is_digit(c))
 }
 
 // A digit's value; of anything else, 0.
@@ -63,10 +56,8 @@ pub fn number(line: &[u8], size: usize, after: usize) -> u64
     ensures { result ≡ number_at size after (bytes_of line.now) }
 {
     let mut n: u64 = 0;
-    let mut k: usize = 0;
-    while k < size {
+    for k in 0..size {
         n = 256 * n + byte_at(line, after + k);
-        k += 1;
     }
     n
 }

@@ -44,14 +44,10 @@ fn put_ids(answer: &mut [u8], at: usize, ids: &[u64], n: u64) -> usize
     requires { at + 4 * length ids.now < 2 ^ 64 }
     ensures { Put answer.old at (hexadecimal (twos (take n ids.now))) answer.new result }
 {
+    let listed = &ids[..ids.len().min(n as usize)];
     let mut next = at;
-    let mut k: usize = 0;
-    while k < ids.len() {
-        if n <= k as u64 {
-            return next;
-        }
-        next = put_two(answer, next, ids[k]);
-        k += 1;
+    for &i in listed {
+        next = put_two(answer, next, i);
     }
     next
 }

@@ -1,21 +1,17 @@
 // What a request does, and what it is answered.
-ghost use Rattle.std.specs.Prelude.{◌≡◌, List, ℕ, eqb};
+ghost use Rattle.std.specs.Prelude.{◌≡◌, List, ℕ};
 ghost use Rattle.layout.specs.Words.{row_kind, used};
-ghost use Rattle.layout.specs.Calls.{start_call};
 ghost use Rattle.framing.specs.States.{lent};
-ghost use Rattle.framing.specs.Answers.{told, is_start, in_time, start_as, start_answer, input_answer, root_answer, answered, replied, lower_answer, id_reply, start_number, counts_reply};
+ghost use Rattle.framing.specs.Answers.{told, is_start, in_time, start_as, start_answer, input_answer, root_answer, answered, replied, lower_answer, id_reply, counts_reply};
 
 use crate::roots;
 use build_calls::calls::{
     base_constant, challenge, extension_constant, input, negate, operation, subtract,
 };
-use building::Answer;
 use framing::{Reply, Request};
-use layout::answer::Started;
 use layout::node::{Position, RowKind};
-use layout::refusal::{BAD_ID, FRAME, NO_ROOM};
+use layout::refusal::Refusal;
 use lower::calls::lower;
-use lowering::Lowered;
 
 // The row kind: 0 until a 00 is accepted.
 pub fn kind_of(m: &[u64]) -> u64
@@ -65,21 +61,12 @@ pub fn in_time(m: &[u64], request: Request) -> bool
 }
 
 // An id's answer: the number, and the id if that is 0.
-pub fn id_of(answer: Answer) -> Reply
+pub fn id_of(answer: Result<u64, Refusal>) -> Reply
     ensures { result ≡ id_reply answer }
 {
     match answer {
-        Answer::Id(i) => Reply::Id(0, i),
-        Answer::Refused(k) => Reply::Id(k, 0),
-    }
-}
-
-fn number_of(started: Started) -> u64
-    ensures { result ≡ start_number started }
-{
-    match started {
-        Started::Fresh => 0,
-        Started::Refused(k) => k,
+        Ok(i) => Reply::Id(0, i),
+        Err(r) => Reply::Id(u64::from(r), 0),
     }
 }
 
@@ -87,12 +74,14 @@ fn number_of(started: Started) -> u64
 fn start(m: &mut [u64], roots: &mut [u64], kind: RowKind) -> Reply
     ensures { (main aux : List ℕ) → told result m.new roots.new main aux ≡ start_as (lent m.old roots.old main aux) kind }
 {
-    let number = number_of(circuit::calls::start(m, kind));
-    if number == 0 {
-        roots::clear(roots);
-        return Reply::Bare(0);
+    let started = circuit::calls::start(m, kind);
+    match started {
+        Ok(()) => {
+            roots::clear(roots);
+            Reply::Bare(0)
+        }
+        Err(r) => Reply::Bare(u64::from(r)),
     }
-    Reply::Bare(number)
 }
 
 // Kind: 01 single, 02 dual.
@@ -102,7 +91,7 @@ pub fn start_frame(m: &mut [u64], roots: &mut [u64], kind: u64) -> Reply
     match kind {
         1 => start(m, roots, RowKind::Single),
         2 => start(m, roots, RowKind::Dual),
-        _ => Reply::Bare(FRAME),
+        _ => Reply::Bare(Refusal::Frame as u64),
     }
 }
 
@@ -115,7 +104,7 @@ fn input_frame(m: &mut [u64], row: u64, c: u64) -> Reply
         1 => id_of(input(m, Position::Aux(c))),
         2 => id_of(input(m, Position::NextMain(c))),
         3 => id_of(input(m, Position::NextAux(c))),
-        _ => Reply::Bare(FRAME),
+        _ => Reply::Bare(Refusal::Frame as u64),
     }
 }
 
@@ -124,21 +113,21 @@ pub fn root_frame(m: &[u64], roots: &mut [u64], i: u64) -> Reply
     ensures { (main aux : List ℕ) → told result m.now roots.new main aux ≡ root_answer (lent m.now roots.old main aux) i }
 {
     if used_of(m) <= i {
-        return Reply::Bare(BAD_ID);
+        return Reply::Bare(Refusal::BadId as u64);
     }
     if roots::count_of(roots) == roots::room_of(roots) {
-        return Reply::Bare(NO_ROOM);
+        return Reply::Bare(Refusal::NoRoom as u64);
     }
     roots::add(roots, i);
     Reply::Bare(0)
 }
 
-fn counts_of(lowered: Lowered) -> Reply
+fn counts_of(lowered: Result<(u64, u64), Refusal>) -> Reply
     ensures { result ≡ counts_reply lowered }
 {
     match lowered {
-        Lowered::Counts(a, b) => Reply::Counts(0, a, b),
-        Lowered::Refused(k) => Reply::Counts(k, 0, 0),
+        Ok((a, b)) => Reply::Counts(0, a, b),
+        Err(r) => Reply::Counts(u64::from(r), 0, 0),
     }
 }
 
@@ -190,7 +179,7 @@ fn answer_to(
         Request::Negate(a) => id_of(negate(m, a)),
         Request::Root(i) => root_frame(m, roots, i),
         Request::Lower(t, a, b) => lower_frame(m, roots, main, aux, t, a, b),
-        Request::Nothing => Reply::Bare(FRAME),
+        Request::Nothing => Reply::Bare(Refusal::Frame as u64),
     }
 }
 
@@ -204,7 +193,7 @@ pub(crate) fn respond(
     ensures { told result m.new roots.new main.new aux.new ≡ replied (lent m.old roots.old main.old aux.old) request }
 {
     if !in_time(m, request) {
-        return Reply::Bare(FRAME);
+        return Reply::Bare(Refusal::Frame as u64);
     }
     answer_to(m, roots, main, aux, request)
 }

@@ -101,10 +101,11 @@ fn serve<R: Read>(
 {
     let mut kept: usize = 0;
     // A proved loop has to end, and nothing says that the input does: no input takes so many turns.
-    let mut turns = u64::MAX;
-    while turns > 0 {
+    for _ in 0..u64::MAX {
         let n = input.read(part)?;
-        turns = if n == 0 { 0 } else { turns - 1 };
+        if n == 0 {
+            break;
+        }
         let p = &part[..n];
         kept = pour(
             rt, m, roots, main, aux, numbers, table, least, line, kept, p, out,

@@ -1,20 +1,16 @@
 -- Document 01, "The frame program": what a request does, and what it is answered. Assumes nothing.
-use Rattle.std.specs.Prelude.{ℕ, Bool, true, false, not, List, [], ◌∷◌, ◌++◌, take, eqb, if◌then◌else◌}
+use Rattle.std.specs.Prelude.{ℕ, Bool, true, false, not, List, [], ◌∷◌, ◌++◌, take, eqb, if◌then◌else◌, Result, Ok, Err}
 use Rattle.std.proofs.lemmas.List.Edits.{sets}
 use Rattle.layout.specs.declared.node.RowKind.{RowKind}
 use Rattle.layout.specs.declared.node.RowKind.TheVariants.{Single, Dual}
 use Rattle.layout.specs.declared.node.Position.TheVariants.{Main, Aux, NextMain, NextAux}
-use Rattle.layout.specs.declared.answer.Started.{Started}
-use Rattle.layout.specs.declared.answer.Started.TheVariants as started
 use Rattle.layout.specs.Words.{row_kind}
 use Rattle.layout.specs.NotCircuit.{bad_id}
+use Rattle.layout.specs.declared.refusal.Refusal.{Refusal}
+use Rattle.layout.specs.Refusals.{number_of}
 use Rattle.layout.specs.Outcomes.{Outcome, refusal}
 use Rattle.layout.specs.Calls.{start_call}
-use Rattle.building.specs.declared.Answer.{Answer}
-use Rattle.building.specs.declared.Answer.TheVariants as answer
 use Rattle.building.specs.Calls.{input_call, challenge_call, base_call, extension_call, operation_call, subtract_call, negate_call}
-use Rattle.lowering.specs.declared.Lowered.{Lowered}
-use Rattle.lowering.specs.declared.Lowered.TheVariants as lowered
 use Rattle.lowering.specs.Calls.{lower_call}
 use Rattle.framing.specs.declared.Reply.{Reply}
 use Rattle.framing.specs.declared.Reply.TheVariants.{Bare, Id, Counts}
@@ -130,14 +126,10 @@ reply_bytes (Id n i) main aux = n ∷ (if eqb n 0 then two i else [])
 reply_bytes (Counts n a b) main aux = n ∷ (if eqb n 0 then twos (a ∷ b ∷ (take a main ++ take b aux)) else [])
 
 -- what the calls answer, as replies
-abbrev pub id_reply : Answer → Reply
-id_reply (answer.Id i) = Id 0 i
-id_reply (answer.Refused k) = Id k 0
+abbrev pub id_reply : Result ℕ Refusal → Reply
+id_reply (Ok i) = Id 0 i
+id_reply (Err r) = Id (number_of r) 0
 
-abbrev pub start_number : Started → ℕ
-start_number started.Fresh = 0
-start_number (started.Refused k) = k
-
-abbrev pub counts_reply : Lowered → Reply
-counts_reply (lowered.Counts a b) = Counts 0 a b
-counts_reply (lowered.Refused k) = Counts k 0 0
+abbrev pub counts_reply : Result (ℕ × ℕ) Refusal → Reply
+counts_reply (Ok (a, b)) = Counts 0 a b
+counts_reply (Err r) = Counts (number_of r) 0 0

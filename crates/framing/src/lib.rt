@@ -24,7 +24,8 @@ pub enum Request {
 #[derive(Clone, Copy)]
 pub struct Form(pub usize, pub Request);
 
-// A number alone; the number, and if that is 0, an id; the number, and if that is 0, how many of each list.
+// A number alone; the number, and if that is 0, an id; the number, and if that is 0, how many of each list. Numbers and no refusals: the definitions
+// make a reply of what an outcome tells (`bare`, `id_answer`, `lower_answer`), and its number may be any.
 #[derive(Clone, Copy)]
 pub enum Reply {
     Bare(u64),

@@ -1,9 +1,9 @@
 -- Each substitution of a lowering keeps no two registered nodes alike, and every constraint (its new input) - (a node). Assumes nothing.
+use Rattle.std.specs.Prelude.{Some}
 use Prim.Native.Nat.{ℕ, suc, ◌+◌, ◌≤◌, ◌<◌}
 use mathlib.Core.Path.{◌≡◌, refl, sym, ap, ◌∙◌}
 use mathlib.Core.Logic.{◌≢◌}
 use mathlib.Core.Bool.{Bool, true, false}
-use mathlib.Core.Option.{some}
 use mathlib.Core.List.{List, [], ◌∷◌, ◌++◌}
 use native.Mathlib.Omega.{arith}
 use native.Mathlib.Decide.{dec_lt}
@@ -66,13 +66,13 @@ module _ (T mc ac : ℕ) (two : 2 ≤ T) where
       go : (s : ℕ) (u : Shape) → Choice T (look x.circuit) x.roots s u → (b : Bool) → is_base (tree x.circuit s) ≡ b → Fits mc ac x (substituted mc ac x s) → Unique (substituted mc ac x s).circuit
       go s u ch true e f =
           let y : Position = Main (mc + length x.main) in
-          let fresh : (i : ℕ) → look x.circuit i ≢ some (leaf_e (input_leaf (Main (mc + length x.main)))) = λ i h. omega (arith, state.columns i (Main (mc + length x.main)) h) in
+          let fresh : (i : ℕ) → look x.circuit i ≢ Some (leaf_e (input_leaf (Main (mc + length x.main)))) = λ i h. omega (arith, state.columns i (Main (mc + length x.main)) h) in
           let kind : is_main (Main (mc + length x.main)) ≡ true → base_s u ≡ true = λ h. ap base_s (sym (shape_is x.circuit u s ch.tree)) ∙ sym (base_shape (tree x.circuit s)) ∙ e in
           let more = main_more mc ac x s e in
           substituted_unique x.circuit state.sound s u ch.low ch.tree y fresh kind mc ac true x refl e refl f.nodes (omega (arith, f.main)) refl proper v
       go s u ch false e f =
           let y : Position = Aux (ac + length x.aux) in
-          let fresh : (i : ℕ) → look x.circuit i ≢ some (leaf_e (input_leaf (Aux (ac + length x.aux)))) = λ i h. omega (arith, state.columns i (Aux (ac + length x.aux)) h) in
+          let fresh : (i : ℕ) → look x.circuit i ≢ Some (leaf_e (input_leaf (Aux (ac + length x.aux)))) = λ i h. omega (arith, state.columns i (Aux (ac + length x.aux)) h) in
           let kind : is_main (Aux (ac + length x.aux)) ≡ true → base_s u ≡ true = λ h. absurd (let z : ◌≡◌ {A = ℕ} 0 1 = cc in omega arith) in
           let more = aux_more mc ac x s e in
           substituted_unique x.circuit state.sound s u ch.low ch.tree y fresh kind mc ac false x refl e refl f.nodes (omega (arith, f.aux)) refl proper v

@@ -1,7 +1,7 @@
 -- A node's value hangs on the cells that the circuit reads alone. Assumes nothing.
+use Rattle.std.specs.Prelude.{Some}
 use Prim.Native.Nat.{ℕ, ◌<◌}
 use mathlib.Core.Path.{◌≡◌, refl, sym, ap₂, ◌∙◌}
-use mathlib.Core.Option.{some}
 use mathlib.Core.List.{List}
 use Rattle.layout.specs.declared.node.Position.{Position}
 use Rattle.layout.specs.Words.{used, apply}
@@ -13,7 +13,7 @@ use Rattle.lowering.proofs.Assignments.{value-is}
 
 -- two assignments agree where a node of c reads
 pub record Agree (c : Look) (a b : Assignment) : Type 0 where
-  pub inputs : (i : ℕ) (q : Position) → c i ≡ some (leaf_e (input_leaf q)) → input_value a q ≡ input_value b q
+  pub inputs : (i : ℕ) (q : Position) → c i ≡ Some (leaf_e (input_leaf q)) → input_value a q ≡ input_value b q
   pub challenges : (k : ℕ) → a.challenges k ≡ b.challenges k
 
 same_value : (c : Look) (a b : Assignment) → Agree c a b → (t : Shape) (i : ℕ) → Unf c t i → val a.challenges (input_value a) t ≡ val b.challenges (input_value b) t

@@ -1,9 +1,9 @@
 -- Nodes that are alike, by their shapes; and one substitution makes no two old nodes alike that were not. Assumes nothing.
+use Rattle.std.specs.Prelude.{Some}
 use Prim.Native.Nat.{ℕ, ◌<◌}
 use mathlib.Core.Path.{◌≡◌, refl, sym, ap, ◌∙◌}
 use mathlib.Core.Logic.{◌⊎◌, inl, inr, ⊎_elim}
 use mathlib.Core.Bool.{Bool, true, false, ◌||◌}
-use mathlib.Core.Option.{some}
 use mathlib.Core.List.{List}
 use native.Mathlib.Decide.{ℕ_discrete, dec_lt}
 use native.Mathlib.Omega.{arith}
@@ -89,12 +89,12 @@ module _ {s n : ℕ} {y : Position} {c c' : Look} {u : Shape} (st : Move c c' s 
       let (e', p', k) = st.old i e p in
       go e p e' p' k (⊎_elim (λ q. q) (λ q. q) h)
     where
-      go : (e : Expr) → c i ≡ some e → (e' : Expr) → c' i ≡ some e' → Kept s n e e' → t' ≡ lf (input_leaf y) → ⊥
+      go : (e : Expr) → c i ≡ Some e → (e' : Expr) → c' i ≡ Some e' → Kept s n e e' → t' ≡ lf (input_leaf y) → ⊥
       go (leaf_e x) p e' p' k q =
-          let z : c' i ≡ some (leaf_e (input_leaf y)) = rw q at v in
+          let z : c' i ≡ Some (leaf_e (input_leaf y)) = rw q at v in
           let f : x ≡ input_leaf y = cc in
-          st.fresh i (p ∙ ap (λ (l : Leaf). some (leaf_e l)) f)
+          st.fresh i (p ∙ ap (λ (l : Leaf). Some (leaf_e l)) f)
       go (op_e o l r) p e' p' (l', r', k, a, b) q =
-          let z : c' i ≡ some (leaf_e (input_leaf y)) = rw q at v in
+          let z : c' i ≡ Some (leaf_e (input_leaf y)) = rw q at v in
           let x : ◌≡◌ {A = ℕ} 0 1 = cc in
           omega arith

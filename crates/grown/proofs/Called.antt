@@ -1,11 +1,11 @@
 -- Demand 3 over the code: whatever `lower` answers, with the lent words after it, its contract says that it tells `lower_call`. So an accepted
 -- call fills as it should, and on a grown circuit keeps the whole promise. Assumes nothing.
+use Rattle.std.specs.Prelude.{Ok}
 use Prim.Native.Nat.{ℕ}
 use mathlib.Core.Path.{◌≡◌, sym, ap, subst}
 use mathlib.Core.List.{List}
 use lib.ListN.{take}
 use Rattle.layout.specs.Outcomes.{Outcome}
-use Rattle.lowering.specs.declared.Lowered.TheVariants.{Counts}
 use Rattle.lowering.specs.Lowering.{Lowering}
 use Rattle.lowering.specs.Calls.{lower_call, returned}
 use Rattle.lowering.specs.Unread.{Unread}
@@ -20,7 +20,7 @@ use Rattle.grown.proofs.Ordered.{left-to-right}
 use Rattle.grown.proofs.Filled.{filled}
 
 -- k main and l auxiliary constraints were answered, and x is what is lent afterwards: the lists are its first k and l places
-module _ (target main_count aux_count : ℕ) (lent : Lowering) (k l : ℕ) (x : Lowering) (contract : told_lowering (Counts k l) x ≡ lower_call target main_count aux_count lent) where
+module _ (target main_count aux_count : ℕ) (lent : Lowering) (k l : ℕ) (x : Lowering) (contract : told_lowering (Ok (k, l)) x ≡ lower_call target main_count aux_count lent) where
   abbrev after : Lowering
   after = record { circuit = x.circuit; roots = x.roots; main = take k x.main; aux = take l x.aux }
 

@@ -1,10 +1,10 @@
 -- A constraint is (its new input) - (a node), and stays so: a later substitution never chooses the product of -1 and that node, since either the
 -- product or the node is loose, and what is chosen stands below a root, where nothing is loose. Assumes nothing.
+use Rattle.std.specs.Prelude.{Some}
 use Prim.Native.Nat.{ℕ, ◌<◌}
 use mathlib.Core.Path.{◌≡◌, refl, ap, ap₂, ◌∙◌}
 use mathlib.Core.Logic.{◌≢◌, ◌⊎◌, inl, inr, ⊎_elim}
 use mathlib.Core.Bool.{Bool, true, false}
-use mathlib.Core.Option.{some}
 use mathlib.Core.List.{List}
 use native.Mathlib.Omega.{arith}
 use Rattle.arithmetic.specs.Base.{minus_one}
@@ -24,28 +24,28 @@ use Rattle.lowering.proofs.OneMore.{OneMore, State}
 pub record Negative (m : List ℕ) (p : ℕ) : Type 0 where
   pub minus : ℕ
   pub node : ℕ
-  pub is_minus : look m minus ≡ some (leaf_e (base_leaf minus_one))
+  pub is_minus : look m minus ≡ Some (leaf_e (base_leaf minus_one))
   pub there : node < used m
-  pub is_product : (look m p ≡ some (op_e Multiply minus node)) ⊎ (look m p ≡ some (op_e Multiply node minus))
+  pub is_product : (look m p ≡ Some (op_e Multiply minus node)) ⊎ (look m p ≡ Some (op_e Multiply node minus))
   pub hidden : (registered m p ≡ false) ⊎ (registered m node ≡ false)
 
 -- node q is the input at y less a node
 pub record Less (m : List ℕ) (y : Position) (q : ℕ) : Type 0 where
   pub input : ℕ
   pub product : ℕ
-  pub is_input : look m input ≡ some (leaf_e (input_leaf y))
-  pub is_sum : (look m q ≡ some (op_e Add input product)) ⊎ (look m q ≡ some (op_e Add product input))
+  pub is_input : look m input ≡ Some (leaf_e (input_leaf y))
+  pub is_sum : (look m q ≡ Some (op_e Add input product)) ⊎ (look m q ≡ Some (op_e Add product input))
   pub negative : Negative m product
 
 module _ (T mc ac : ℕ) (x x₁ : Lowering) (state : State mc ac x) (one : OneMore T mc ac x x₁) where
   -- a leaf stays, and isn't chosen
-  leaf_kept : (i : ℕ) (a : Leaf) → look x.circuit i ≡ some (leaf_e a) → look x₁.circuit i ≡ some (leaf_e a)
-  leaf_kept i a h = let (e, p, k) = one.st.step.move.old i (leaf_e a) h in p ∙ ap some k
+  leaf_kept : (i : ℕ) (a : Leaf) → look x.circuit i ≡ Some (leaf_e a) → look x₁.circuit i ≡ Some (leaf_e a)
+  leaf_kept i a h = let (e, p, k) = one.st.step.move.old i (leaf_e a) h in p ∙ ap Some k
 
-  leaf_other : (i : ℕ) (a : Leaf) → look x.circuit i ≡ some (leaf_e a) → i ≢ one.s
+  leaf_other : (i : ℕ) (a : Leaf) → look x.circuit i ≡ Some (leaf_e a) → i ≢ one.s
   leaf_other i a h e =
       let (o, l, r, p) = operation_at (look x.circuit) one.u one.s one.choice.low one.choice.tree in
-      let h' : look x.circuit one.s ≡ some (leaf_e a) = rw e at h in
+      let h' : look x.circuit one.s ≡ Some (leaf_e a) = rw e at h in
       let z : ◌≡◌ {A = ℕ} 0 1 = cc in
       omega arith
 
@@ -77,7 +77,7 @@ module _ (T mc ac : ℕ) (x x₁ : Lowering) (state : State mc ac x) (one : OneM
   negative_kept : (p : ℕ) → Negative x.circuit p → Negative x₁.circuit p
   negative_kept p n = go n.is_product
     where
-      go : (look x.circuit p ≡ some (op_e Multiply n.minus n.node)) ⊎ (look x.circuit p ≡ some (op_e Multiply n.node n.minus)) → Negative x₁.circuit p
+      go : (look x.circuit p ≡ Some (op_e Multiply n.minus n.node)) ⊎ (look x.circuit p ≡ Some (op_e Multiply n.node n.minus)) → Negative x₁.circuit p
       go (inl h) =
           let (e, q, (l, r, k, a, b)) = one.st.step.move.old p (op_e Multiply n.minus n.node) h in
           let z : l ≡ n.minus = stays (leaf_other n.minus (base_leaf minus_one) n.is_minus) a in
@@ -86,7 +86,7 @@ module _ (T mc ac : ℕ) (x x₁ : Lowering) (state : State mc ac x) (one : OneM
             node = r;
             is_minus = leaf_kept n.minus (base_leaf minus_one) n.is_minus;
             there = node_there n.node r n.there b;
-            is_product = inl (q ∙ ap some k ∙ ap (λ (j : ℕ). some (op_e Multiply j r)) z);
+            is_product = inl (q ∙ ap Some k ∙ ap (λ (j : ℕ). Some (op_e Multiply j r)) z);
             hidden = still_hidden p n.node r (look_lt x.circuit p (op_e Multiply n.minus n.node) h) n.there b n.hidden;
           }
       go (inr h) =
@@ -97,15 +97,15 @@ module _ (T mc ac : ℕ) (x x₁ : Lowering) (state : State mc ac x) (one : OneM
             node = l;
             is_minus = leaf_kept n.minus (base_leaf minus_one) n.is_minus;
             there = node_there n.node l n.there a;
-            is_product = inr (q ∙ ap some k ∙ ap (λ (j : ℕ). some (op_e Multiply l j)) z);
+            is_product = inr (q ∙ ap Some k ∙ ap (λ (j : ℕ). Some (op_e Multiply l j)) z);
             hidden = still_hidden p n.node l (look_lt x.circuit p (op_e Multiply n.node n.minus) h) n.there a n.hidden;
           }
 
   -- a sum of an input and a hidden product stays
-  sum_kept : (q a b : ℕ) → look x.circuit q ≡ some (op_e Add a b) → a ≢ one.s → b ≢ one.s → look x₁.circuit q ≡ some (op_e Add a b)
+  sum_kept : (q a b : ℕ) → look x.circuit q ≡ Some (op_e Add a b) → a ≢ one.s → b ≢ one.s → look x₁.circuit q ≡ Some (op_e Add a b)
   sum_kept q a b h f g =
       let (e, p, (l, r, k, v, w)) = one.st.step.move.old q (op_e Add a b) h in
-      p ∙ ap some k ∙ ap₂ (λ (i j : ℕ). some (op_e Add i j)) (stays f v) (stays g w)
+      p ∙ ap Some k ∙ ap₂ (λ (i j : ℕ). Some (op_e Add i j)) (stays f v) (stays g w)
 
   pub less_kept : (y : Position) (q : ℕ) → Less x.circuit y q → Less x₁.circuit y q
   less_kept y q d =

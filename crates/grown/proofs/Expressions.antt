@@ -1,9 +1,9 @@
 -- What a constraint's expression reads: the shape of the node that its column stands for, and the columns in it. Assumes nothing.
+use Rattle.std.specs.Prelude.{Some}
 use Prim.Native.Nat.{ℕ, ◌≤◌, ◌<◌}
 use mathlib.Core.Path.{◌≡◌, refl, ◌∙◌, ap, subst}
 use mathlib.Core.Logic.{◌⊎◌, inl, inr}
 use mathlib.Core.Bool.{true}
-use mathlib.Core.Option.{some}
 use mathlib.Core.List.{List, ◌∷◌}
 use native.Mathlib.Omega.{arith}
 use Rattle.arithmetic.specs.Base.{minus_one}
@@ -37,7 +37,7 @@ Reads a b (lf (challenge_leaf k)) = Unit {0}
 Reads a b (lf (input_leaf q)) = Taken a b q
 Reads a b (op o s t) = Reads a b s × Reads a b t
 
-pub reads_of : (c : Look) (a b : ℕ) → ((i : ℕ) (q : Position) → c i ≡ some (leaf_e (input_leaf q)) → Taken a b q) → (t : Shape) (i : ℕ) → Unf c t i → Reads a b t
+pub reads_of : (c : Look) (a b : ℕ) → ((i : ℕ) (q : Position) → c i ≡ Some (leaf_e (input_leaf q)) → Taken a b q) → (t : Shape) (i : ℕ) → Unf c t i → Reads a b t
 reads_of c a b h (lf (base_leaf w)) i p = tt
 reads_of c a b h (lf (extension_leaf w)) i p = tt
 reads_of c a b h (lf (challenge_leaf k)) i p = tt
@@ -97,8 +97,8 @@ pub column-more : (m : List ℕ) (y : Position) (a b a' b' q : ℕ) → a ≤ a'
 column-more m y a b a' b' q h k c = record { u = c.u; form = c.form; large = c.large; reads = reads_more a b a' b' h k c.u c.reads; base = c.base }
 
 module _ (m : List ℕ) where
-  looks : (i : ℕ) (e : Expression) → i < used m → expression_at m i ≡ e → look m i ≡ some (expr_of e)
-  looks i e h k = look_in m i h ∙ ap (λ (x : Expression). some (expr_of x)) k
+  looks : (i : ℕ) (e : Expression) → i < used m → expression_at m i ≡ e → look m i ≡ Some (expr_of e)
+  looks i e h k = look_in m i h ∙ ap (λ (x : Expression). Some (expr_of x)) k
 
   -- the factor beside -1
   factor : (u p : Shape) (d v i : ℕ) → Unf (look m) p d → Product u p → 3 ≤ deg u → expression_at m v ≡ Base minus_one → (expression_at m d ≡ Operation Multiply v i) ⊎ (expression_at m d ≡ Operation Multiply i v) → Unf (look m) u i
@@ -106,7 +106,7 @@ module _ (m : List ℕ) where
       let (l, r, q, wl, wr) = subst (λ (t : Shape). Unf (look m) t d) e w in
       go l r q wl wr h
     where
-      go : (l r : ℕ) → look m d ≡ some (op_e Multiply l r) → look m l ≡ some (leaf_e (base_leaf minus_one)) → Unf (look m) u r → (expression_at m d ≡ Operation Multiply v i) ⊎ (expression_at m d ≡ Operation Multiply i v) → Unf (look m) u i
+      go : (l r : ℕ) → look m d ≡ Some (op_e Multiply l r) → look m l ≡ Some (leaf_e (base_leaf minus_one)) → Unf (look m) u r → (expression_at m d ≡ Operation Multiply v i) ⊎ (expression_at m d ≡ Operation Multiply i v) → Unf (look m) u i
       go l r q wl wr (inl k) = let k' = looks d (Operation Multiply v i) (look_lt m d (op_e Multiply l r) q) k in let e : r ≡ i = cc in rw e at wr
       go l r q wl wr (inr k) =
           let k' = looks d (Operation Multiply i v) (look_lt m d (op_e Multiply l r) q) k in
@@ -119,7 +119,7 @@ module _ (m : List ℕ) where
       let (l, r, q, wl, wr) = subst (λ (t : Shape). Unf (look m) t d) e w in
       go l r q wl wr h
     where
-      go : (l r : ℕ) → look m d ≡ some (op_e Multiply l r) → Unf (look m) u l → look m r ≡ some (leaf_e (base_leaf minus_one)) → (expression_at m d ≡ Operation Multiply v i) ⊎ (expression_at m d ≡ Operation Multiply i v) → Unf (look m) u i
+      go : (l r : ℕ) → look m d ≡ Some (op_e Multiply l r) → Unf (look m) u l → look m r ≡ Some (leaf_e (base_leaf minus_one)) → (expression_at m d ≡ Operation Multiply v i) ⊎ (expression_at m d ≡ Operation Multiply i v) → Unf (look m) u i
       go l r q wl wr (inr k) = let k' = looks d (Operation Multiply i v) (look_lt m d (op_e Multiply l r) q) k in let e : l ≡ i = cc in rw e at wl
       go l r q wl wr (inl k) =
           let k' = looks d (Operation Multiply v i) (look_lt m d (op_e Multiply l r) q) k in
@@ -130,7 +130,7 @@ module _ (m : List ℕ) where
           absurd (let n : ◌≡◌ {A = ℕ} 0 1 = cc in omega arith)
 
   -- a product is an operation
-  product_op : (u p : Shape) (d : ℕ) → Product u p → Unf (look m) p d → (l : ℕ) × (r : ℕ) × (look m d ≡ some (op_e Multiply l r))
+  product_op : (u p : Shape) (d : ℕ) → Product u p → Unf (look m) p d → (l : ℕ) × (r : ℕ) × (look m d ≡ Some (op_e Multiply l r))
   product_op u p d (inl e) w = let (l, r, q, wl, wr) = subst (λ (t : Shape). Unf (look m) t d) e w in (l, r, q)
   product_op u p d (inr e) w = let (l, r, q, wl, wr) = subst (λ (t : Shape). Unf (look m) t d) e w in (l, r, q)
 
@@ -143,14 +143,14 @@ module _ (m : List ℕ) where
       whole = tree_shape m sound q here
 
       -- the input is no operation
-      no_op : (i : ℕ) → (l : ℕ) × (r : ℕ) × (look m i ≡ some (op_e Multiply l r)) → expression_at m i ≡ Input y → ⊥
+      no_op : (i : ℕ) → (l : ℕ) × (r : ℕ) × (look m i ≡ Some (op_e Multiply l r)) → expression_at m i ≡ Input y → ⊥
       no_op i (l, r, p) h = let k = looks i (Input y) (look_lt m i (op_e Multiply l r) p) h in let n : ◌≡◌ {A = ℕ} 0 1 = cc in omega arith
 
       at_product : (shape (tree m q) ≡ op Add (lf (input_leaf y)) c.form.product) ⊎ (shape (tree m q) ≡ op Add c.form.product (lf (input_leaf y)))
           → (expression_at m q ≡ Operation Add d.input d.product) ⊎ (expression_at m q ≡ Operation Add d.product d.input) → Unf (look m) c.form.product d.product
       at_product (inl e) h = let (l, r, p, v, w) = subst (λ (t : Shape). Unf (look m) t q) e whole in go l r p v w h
         where
-          go : (l r : ℕ) → look m q ≡ some (op_e Add l r) → look m l ≡ some (leaf_e (input_leaf y)) → Unf (look m) c.form.product r → (expression_at m q ≡ Operation Add d.input d.product) ⊎ (expression_at m q ≡ Operation Add d.product d.input)
+          go : (l r : ℕ) → look m q ≡ Some (op_e Add l r) → look m l ≡ Some (leaf_e (input_leaf y)) → Unf (look m) c.form.product r → (expression_at m q ≡ Operation Add d.input d.product) ⊎ (expression_at m q ≡ Operation Add d.product d.input)
               → Unf (look m) c.form.product d.product
           go l r p v w (inl k) = let k' = looks q (Operation Add d.input d.product) here k in let e : r ≡ d.product = cc in rw e at w
           go l r p v w (inr k) =
@@ -159,7 +159,7 @@ module _ (m : List ℕ) where
               absurd (no_op d.input (product_op c.u c.form.product d.input c.form.is_product (rw e at w)) d.is_input)
       at_product (inr e) h = let (l, r, p, v, w) = subst (λ (t : Shape). Unf (look m) t q) e whole in go l r p v w h
         where
-          go : (l r : ℕ) → look m q ≡ some (op_e Add l r) → Unf (look m) c.form.product l → look m r ≡ some (leaf_e (input_leaf y)) → (expression_at m q ≡ Operation Add d.input d.product) ⊎ (expression_at m q ≡ Operation Add d.product d.input)
+          go : (l r : ℕ) → look m q ≡ Some (op_e Add l r) → Unf (look m) c.form.product l → look m r ≡ Some (leaf_e (input_leaf y)) → (expression_at m q ≡ Operation Add d.input d.product) ⊎ (expression_at m q ≡ Operation Add d.product d.input)
               → Unf (look m) c.form.product d.product
           go l r p v w (inr k) = let k' = looks q (Operation Add d.product d.input) here k in let e : l ≡ d.product = cc in rw e at v
           go l r p v w (inl k) =
@@ -189,13 +189,13 @@ module _ (m : List ℕ) where
           absurd (let z : ◌≡◌ {A = ℕ} 0 1 = cc in omega arith)
 
   -- where every next-row input of the circuit is below c and d
-  pub next_at : (c d : ℕ) → ((i : ℕ) (q : Position) → is_next q ≡ true → look m i ≡ some (leaf_e (input_leaf q)) → Taken c d q) → (t : Tree) (e : ℕ) → Tru (look m) t e → (i : ℕ) → In i (walk t) → (q : Position) → is_next q ≡ true → expression_at m i ≡ Input q → Taken c d q
+  pub next_at : (c d : ℕ) → ((i : ℕ) (q : Position) → is_next q ≡ true → look m i ≡ Some (leaf_e (input_leaf q)) → Taken c d q) → (t : Tree) (e : ℕ) → Tru (look m) t e → (i : ℕ) → In i (walk t) → (q : Position) → is_next q ≡ true → expression_at m i ≡ Input q → Taken c d q
   next_at c d h t e v i k q n f =
       let p = mirror (look m) (look m) t t e e v v refl i k in
       h i q n (looks i (Input q) (has_used m p.form i p.was) f)
 
   -- USES
-  pub uses : (a b c d : ℕ) (u : Shape) (e : ℕ) → ((i : ℕ) (q : Position) → is_next q ≡ true → look m i ≡ some (leaf_e (input_leaf q)) → Taken c d q) → Unf (look m) u e → Reads a b u → Uses m e a b c d
+  pub uses : (a b c d : ℕ) (u : Shape) (e : ℕ) → ((i : ℕ) (q : Position) → is_next q ≡ true → look m i ≡ Some (leaf_e (input_leaf q)) → Taken c d q) → Unf (look m) u e → Reads a b u → Uses m e a b c d
   uses a b c d u e n w r =
       let t : Tru (look m) (tree m e) e = tree_of m u e w in
       let r' : Reads a b (shape (tree m e)) = rw (shape_is m u e w) r in

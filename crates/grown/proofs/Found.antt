@@ -1,8 +1,8 @@
 -- A node found, or else made: what it is equal to, and that no two registered nodes come to be alike. Leaves. Assumes nothing.
+use Rattle.std.specs.Prelude.{Option, None, Some}
 use Prim.Native.Nat.{ℕ, ◌<◌}
 use mathlib.Core.Path.{◌≡◌, refl}
 use mathlib.Core.Bool.{Bool, true, false, ◌&&◌}
-use mathlib.Core.Option.{Option, none, some}
 use mathlib.Core.List.{List}
 use native.Mathlib.Omega.{arith}
 use Rattle.layout.specs.declared.node.Expression.{Expression}
@@ -21,16 +21,16 @@ use Rattle.build.proofs.Runs.{full_not}
 use Rattle.grown.proofs.Built.{new_tree, Builds, builds_none, builds_one}
 
 -- a registered node that is equal
-pub found_same : (m : List ℕ) (e : Expression) (i : ℕ) → find m e ≡ some i → same (tree m i) (tree_of m e) ≡ true
+pub found_same : (m : List ℕ) (e : Expression) (i : ℕ) → find m e ≡ Some i → same (tree m i) (tree_of m e) ≡ true
 unfolding find
 found_same m e i h = go (find m e) h (first_found (λ j. registered m j && same (tree m j) (tree_of m e)) (used m))
   where
-    go : (f : Option ℕ) → f ≡ some i → Found (λ j. registered m j && same (tree m j) (tree_of m e)) (used m) f → same (tree m i) (tree_of m e) ≡ true
-    go none q g = absurd (let z : ◌≡◌ {A = ℕ} 0 1 = cc in omega arith)
-    go (some j) q g = let z : j ≡ i = cc in rw z at (and-true (registered m j) (same (tree m j) (tree_of m e)) g.passes).1
+    go : (f : Option ℕ) → f ≡ Some i → Found (λ j. registered m j && same (tree m j) (tree_of m e)) (used m) f → same (tree m i) (tree_of m e) ≡ true
+    go None q g = absurd (let z : ◌≡◌ {A = ℕ} 0 1 = cc in omega arith)
+    go (Some j) q g = let z : j ≡ i = cc in rw z at (and-true (registered m j) (same (tree m j) (tree_of m e)) g.passes).1
 
 -- or none
-pub found_other : (m : List ℕ) (e : Expression) → find m e ≡ none → (j : ℕ) → j < used m → registered m j ≡ true → same (tree m j) (tree_of m e) ≡ false
+pub found_other : (m : List ℕ) (e : Expression) → find m e ≡ None → (j : ℕ) → j < used m → registered m j ≡ true → same (tree m j) (tree_of m e) ≡ false
 unfolding find
 found_other m e h = go (find m e) h (first_found (λ j. registered m j && same (tree m j) (tree_of m e)) (used m))
   where
@@ -38,9 +38,9 @@ found_other m e h = go (find m e) h (first_found (λ j. registered m j && same (
     and-false true b q r = q
     and-false false b q r = clash false r refl
 
-    go : (f : Option ℕ) → f ≡ none → Found (λ j. registered m j && same (tree m j) (tree_of m e)) (used m) f → (j : ℕ) → j < used m → registered m j ≡ true → same (tree m j) (tree_of m e) ≡ false
-    go none q g j l r = and-false (registered m j) (same (tree m j) (tree_of m e)) (g j l) r
-    go (some i) q g j l r = absurd (let z : ◌≡◌ {A = ℕ} 0 1 = cc in omega arith)
+    go : (f : Option ℕ) → f ≡ None → Found (λ j. registered m j && same (tree m j) (tree_of m e)) (used m) f → (j : ℕ) → j < used m → registered m j ≡ true → same (tree m j) (tree_of m e) ≡ false
+    go None q g j l r = and-false (registered m j) (same (tree m j) (tree_of m e)) (g j l) r
+    go (Some i) q g j l r = absurd (let z : ◌≡◌ {A = ℕ} 0 1 = cc in omega arith)
 
 -- what was built, and a tree that it is equal to
 pub record BuildsTree (m : List ℕ) (b : Built) (t : Tree) : Type 0 where
@@ -57,8 +57,8 @@ unfolding find_or_make
 find_builds m e valid good = go (find m e) refl
   where
     go : (f : Option ℕ) → find m e ≡ f → full m (or_else f m (built (made m e) (used m))) ≡ false → ((j : ℕ) → j < used m → registered m j ≡ true → same (tree m j) (tree_of m e) ≡ false → alike (tree m j) (tree_of m e) ≡ false) → BuildsTree m (or_else f m (built (made m e) (used m))) (tree_of m e)
-    go (some i) q r h = record { builds = builds_none m i valid (find_below_lem m e i q); equal = found_same m e i q }
-    go none q r h =
+    go (Some i) q r h = record { builds = builds_none m i valid (find_below_lem m e i q); equal = found_same m e i q }
+    go None q r h =
         let room = one_room m e r in
         record {
           builds = builds_one m e valid good room (λ j l g. h j l g (found_other m e q j l g));

@@ -1,9 +1,9 @@
 -- The invariant of a lowering that makes its lists left to right: what is listed is quiet, and each constraint's expression reads earlier columns only. Assumes nothing.
+use Rattle.std.specs.Prelude.{Some}
 use Prim.Native.Nat.{ℕ, zero, suc, ◌+◌, ◌≤◌, ◌<◌}
 use mathlib.Core.Path.{◌≡◌, refl, ap, ◌∙◌}
 use mathlib.Core.Logic.{◌⊎◌, inl, inr}
 use mathlib.Core.Bool.{true, false}
-use mathlib.Core.Option.{some}
 use mathlib.Core.List.{List, [], ◌∷◌, ◌++◌}
 use native.Mathlib.Omega.{arith}
 use lib.ListN.{length, get_or}
@@ -39,7 +39,7 @@ pub record Holds (T mc ac : ℕ) (x : Lowering) : Type 0 where
   pub has : (q : ℕ) → In q (x.main ++ x.aux) → (t : Shape) × Unf (look x.circuit) t q
   pub quiet : (q : ℕ) → In q (x.main ++ x.aux) → (z : ℕ) → In z (walk (tree x.circuit q)) → Quiet T x z
   -- no input of the next row is at or above its count
-  pub next : (i : ℕ) (q : Position) → is_next q ≡ true → look x.circuit i ≡ some (leaf_e (input_leaf q)) → Taken mc ac q
+  pub next : (i : ℕ) (q : Position) → is_next q ≡ true → look x.circuit i ≡ Some (leaf_e (input_leaf q)) → Taken mc ac q
   -- and its expression reads earlier columns
   pub main : (k : ℕ) → k < length x.main → Column x.circuit (Main (mc + k)) (mc + k) (ac + length x.aux) (get_or x.main k 0)
   pub aux : (k : ℕ) → k < length x.aux → Column x.circuit (Aux (ac + k)) (mc + length x.main) (ac + k) (get_or x.aux k 0)
@@ -121,10 +121,10 @@ module _ (T mc ac : ℕ) (two : 2 ≤ T) (x : Lowering) (h : Holds T mc ac x) (h
   new_current y q (to_main e a b) = ap is_next e
   new_current y q (to_aux e a b) = ap is_next e
 
-  next_after : (i : ℕ) (q : Position) → is_next q ≡ true → look x₁.circuit i ≡ some (leaf_e (input_leaf q)) → Taken mc ac q
+  next_after : (i : ℕ) (q : Position) → is_next q ≡ true → look x₁.circuit i ≡ Some (leaf_e (input_leaf q)) → Taken mc ac q
   next_after i q n k = go (one.inputs i q k)
     where
-      go : (look x.circuit i ≡ some (leaf_e (input_leaf q))) ⊎ (q ≡ one.y) → Taken mc ac q
+      go : (look x.circuit i ≡ Some (leaf_e (input_leaf q))) ⊎ (q ≡ one.y) → Taken mc ac q
       go (inl z) = h.next i q n z
       go (inr z) = clash (is_next q) n (ap is_next z ∙ new_current one.y one.q one.added)
 

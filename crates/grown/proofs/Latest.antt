@@ -1,9 +1,9 @@
 -- The lists of the latest lowering are filled, from their order: NOT_LOWERED never comes, and the values are demand 3's one choice. Assumes nothing.
+use Rattle.std.specs.Prelude.{Some}
 use Prim.Native.Nat.{ℕ, zero, suc, ◌+◌, ◌*◌, ◌/◌, ◌≤◌, ◌<◌}
 use mathlib.Core.Path.{◌≡◌, refl, sym, ap, ◌∙◌, ap₂}
 use mathlib.Core.Logic.{inl, inr}
 use mathlib.Core.Bool.{Bool, true, false}
-use mathlib.Core.Option.{some}
 use mathlib.Core.List.{List, [], ◌∷◌, ◌++◌}
 use native.Mathlib.Omega.{arith}
 use lib.ListN.{length, get_or, take, drop, replicate, length-take, length-drop, length-replicate, take-append-drop}
@@ -242,10 +242,10 @@ module _ (T mc ac : ℕ) (lent : Lowering) (g : Grown lent.circuit) (h : (lower_
       unfolding said meant assigned
       agrees = record { inputs = at; challenges = λ k. refl }
         where
-          two : (n : ℕ) (q : Position) → is_next q ≡ true → look m' n ≡ some (leaf_e (input_leaf q)) → row_kind m' ≡ 2
+          two : (n : ℕ) (q : Position) → is_next q ≡ true → look m' n ≡ Some (leaf_e (input_leaf q)) → row_kind m' ≡ 2
           two n q e k = dual m' valid' q e (fair m' valid' n (look_lt m' n (leaf_e (input_leaf q)) k) (Input q) (says m' n (Input q) k))
 
-          at : (n : ℕ) (q : Position) → look m' n ≡ some (leaf_e (input_leaf q)) → input_value said q ≡ input_value meant q
+          at : (n : ℕ) (q : Position) → look m' n ≡ Some (leaf_e (input_leaf q)) → input_value said q ≡ input_value meant q
           at n (Main c) k = ap lift (ap (λ (t : List ℕ). get_or t c 0) over_main ∙ stored_main cleared_main new mc (inr (omega (arith, new_length, length_cleared.0, room_main))) c)
           at n (Aux c) k = ap (λ (t : List ℕ). triple_at t c) over_aux_lem ∙ stored_aux cleared_aux new_a ac (length after.aux) new_a_length (inr (omega (arith, length_cleared.1, room_aux))) c
           at n (NextMain c) k = ap (λ (t : List ℕ). lift (get_or t c 0)) (next_main_lem (two n (NextMain c) refl k))

@@ -1,9 +1,9 @@
 -- A difference gives its column an expression, now and after more was built; where it uses earlier columns alone, nothing is wrong with it. Assumes nothing.
+use Rattle.std.specs.Prelude.{Option, Some}
 use Prim.Native.Nat.{ℕ, suc, ◌+◌, ◌<◌}
 use mathlib.Core.Path.{◌≡◌, refl, ap, ◌∙◌}
 use mathlib.Core.Logic.{inl, ⊎_elim}
 use mathlib.Core.Bool.{Bool, true, false}
-use mathlib.Core.Option.{Option, some}
 use mathlib.Core.List.{List, [], ◌∷◌}
 use native.Mathlib.Omega.{arith}
 use lib.ListN.{length, get_or}
@@ -38,7 +38,7 @@ use Rattle.grown.proofs.Since.{Kept}
 -- an expression that a difference gives its column
 pub record Gives (m : List ℕ) (y : Position) (q : ℕ) : Type 0 where
   pub difference : Difference m y q
-  pub is : expression_of m y q ≡ some difference.chosen
+  pub is : expression_of m y q ≡ Some difference.chosen
   pub here : difference.chosen < used m
 
 module _ (m : List ℕ) (valid : not_circuit m ≡ false) where
@@ -73,7 +73,7 @@ module _ (m : List ℕ) (valid : not_circuit m ≡ false) where
     -- the product, in either order
     record Times : Type 0 where
       difference : Difference m y q
-      is : minus_times m (expression_at m d.product) ≡ some difference.chosen
+      is : minus_times m (expression_at m d.product) ≡ Some difference.chosen
       chosen_here : difference.chosen < used m
 
     times : Times

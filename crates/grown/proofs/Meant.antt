@@ -1,10 +1,10 @@
 -- The tables with new words stored in the current row say, wherever a node of the lowered circuit reads, what the choice means; so evaluation answers
 -- the values under it. The original's nodes read no further. Assumes nothing.
+use Rattle.std.specs.Prelude.{Some}
 use Prim.Native.Nat.{ℕ, zero, suc, ◌+◌, ◌*◌, ◌/◌, ◌≤◌, ◌<◌}
 use mathlib.Core.Path.{◌≡◌, refl, ap, ◌∙◌}
 use mathlib.Core.Logic.{◌⊎◌, inl, inr, ⊎_elim}
 use mathlib.Core.Bool.{true, false, ◌&&◌, not}
-use mathlib.Core.Option.{some}
 use mathlib.Core.List.{List, [], ◌∷◌}
 use native.Mathlib.Omega.{arith}
 use lib.ListN.{length, get_or}
@@ -42,7 +42,7 @@ module _ (mc ac : ℕ) (m : List ℕ) (x : Lowering) (left : Remains mc ac m x) 
   rows = ⊎_elim (λ e. inl (eqb-true (row_kind x.circuit) 1 e)) (λ e. inr (eqb-true (row_kind x.circuit) 2 e)) (either (eqb (row_kind x.circuit) 1) (eqb (row_kind x.circuit) 2) (proper_of x.circuit valid).row)
 
   -- an input's column lies in the tables
-  column_lent : (n : ℕ) (q : Position) → look x.circuit n ≡ some (leaf_e (input_leaf q)) → column q < columns_lent x.circuit main aux q
+  column_lent : (n : ℕ) (q : Position) → look x.circuit n ≡ Some (leaf_e (input_leaf q)) → column q < columns_lent x.circuit main aux q
   column_lent n q h =
       let e : expression_at x.circuit n ≡ Input q = says x.circuit n (Input q) h in
       leb-false (columns_lent x.circuit main aux q) (column q) (rw e at (wide.reads n (look_lt x.circuit n (leaf_e (input_leaf q)) h)))
@@ -60,13 +60,13 @@ module _ (mc ac : ℕ) (m : List ℕ) (x : Lowering) (left : Remains mc ac m x) 
   aux_room v (suc l) f e = let (n, h) = left.aux_new l (omega arith) in inr (omega (arith, column_lent n (Aux (ac + l)) h))
 
   -- a leaf of the circuit afterwards reads no further than the tables go
-  read_after : (i : ℕ) (e : Expression) → look x.circuit i ≡ some (expr_of e) → reads_beyond x.circuit main aux challenges e ≡ false
+  read_after : (i : ℕ) (e : Expression) → look x.circuit i ≡ Some (expr_of e) → reads_beyond x.circuit main aux challenges e ≡ false
   read_after i e h =
       let q : expression_at x.circuit i ≡ e = says x.circuit i e h in
       rw q at (wide.reads i (look_lt x.circuit i (expr_of e) h))
 
   -- a circuit that reads the next row is dual-row
-  dual : (n : ℕ) (q : Position) → is_next q ≡ true → look x.circuit n ≡ some (leaf_e (input_leaf q)) → row_kind x.circuit ≡ 2
+  dual : (n : ℕ) (q : Position) → is_next q ≡ true → look x.circuit n ≡ Some (leaf_e (input_leaf q)) → row_kind x.circuit ≡ 2
   dual n q e h =
       let (a, b) = neither (bad_index (column q)) (is_next q && not (eqb (row_kind x.circuit) 2)) ((proper_of x.circuit valid).leaves n (input_leaf q) h) in
       let c : (true && not (eqb (row_kind x.circuit) 2)) ≡ false = rw e at b in
@@ -111,7 +111,7 @@ module _ (mc ac : ℕ) (m : List ℕ) (x : Lowering) (left : Remains mc ac m x) 
     unfolding assigned
     agrees = record { inputs = at; challenges = λ k. refl }
       where
-        at : (n : ℕ) (q : Position) → look x.circuit n ≡ some (leaf_e (input_leaf q)) → input_value said q ≡ input_value meant q
+        at : (n : ℕ) (q : Position) → look x.circuit n ≡ Some (leaf_e (input_leaf q)) → input_value said q ≡ input_value meant q
         at n (Main c) h = ap lift (stored_main main v.main mc main_inside c)
         at n (Aux c) h = stored_aux aux v.aux ac (length x.aux) v.aux_count aux_inside c
         at n (NextMain c) h = ap (λ (t : List ℕ). lift (get_or t c 0)) (next_main_lem (dual n (NextMain c) refl h))
@@ -124,7 +124,7 @@ module _ (mc ac : ℕ) (m : List ℕ) (x : Lowering) (left : Remains mc ac m x) 
         ∙ ap (λ (t : Triple). accepted {L = Unit {0}} t tt) (value_agrees x.circuit (valid_sound x.circuit valid) said meant agrees i h)
 
   -- the original's nodes read no further
-  leaf-reads : (i : ℕ) (e : Expression) → look m i ≡ some (expr_of e) → reads_beyond m main aux challenges e ≡ false
+  leaf-reads : (i : ℕ) (e : Expression) → look m i ≡ Some (expr_of e) → reads_beyond m main aux challenges e ≡ false
   unfolding columns_lent
   leaf-reads i (Base w) h = refl
   leaf-reads i (Extension t) h = refl

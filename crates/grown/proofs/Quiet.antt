@@ -1,9 +1,9 @@
 -- What stands at or below a chosen node never occurs again, unless its degree is below 2: it is quiet. What is quiet stays quiet, and isn't chosen. Assumes nothing.
+use Rattle.std.specs.Prelude.{Some}
 use Prim.Native.Nat.{ℕ, suc, ◌+◌, ◌-◌, ◌≤◌, ◌<◌}
 use mathlib.Core.Path.{◌≡◌, refl, ◌∙◌, ap}
 use mathlib.Core.Logic.{◌≢◌, ◌⊎◌, inl, inr}
 use mathlib.Core.Bool.{Bool, true, false, ◌&&◌}
-use mathlib.Core.Option.{some}
 use mathlib.Core.List.{List, [], ◌∷◌}
 use native.Mathlib.Decide.{dec_le}
 use native.Mathlib.Omega.{arith}
@@ -61,14 +61,14 @@ module _ (T mc ac : ℕ) (two : 2 ≤ T) (x x₁ : Lowering) (state : State mc a
   below_used i b = let (t, w) = below_tree state.rooted i b in has_used m t i w
 
   -- an old node isn't the new input
-  pub old_other : (z : ℕ) (e : Expr) → look m z ≡ some e → z ≢ one.n
+  pub old_other : (z : ℕ) (e : Expr) → look m z ≡ Some e → z ≢ one.n
   old_other z e p h = let (e', p', k) = move.old z e p in go e e' p p' k
     where
-      new : look m₁ z ≡ some (leaf_e (input_leaf one.y))
+      new : look m₁ z ≡ Some (leaf_e (input_leaf one.y))
       new = rw h move.new
 
-      go : (e e' : Expr) → look m z ≡ some e → look m₁ z ≡ some e' → Kept one.s one.n e e' → ⊥
-      go (leaf_e a) e' p p' k = let q : a ≡ input_leaf one.y = cc in move.fresh z (p ∙ ap (λ (l : Leaf). some (leaf_e l)) q)
+      go : (e e' : Expr) → look m z ≡ Some e → look m₁ z ≡ Some e' → Kept one.s one.n e e' → ⊥
+      go (leaf_e a) e' p p' k = let q : a ≡ input_leaf one.y = cc in move.fresh z (p ∙ ap (λ (l : Leaf). Some (leaf_e l)) q)
       go (op_e o l r) e' p p' (l', r', k, v, w) = let q : ◌≡◌ {A = ℕ} 0 1 = cc in omega arith
 
   -- what stands below the chosen node stands below the roots

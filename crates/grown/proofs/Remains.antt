@@ -1,9 +1,8 @@
 -- What an accepted lowering leaves in place: the row kind, every leaf; its roots, its constraints and its new columns are nodes. Assumes nothing.
-use Rattle.std.specs.Prelude.{if◌then◌else◌}
+use Rattle.std.specs.Prelude.{if◌then◌else◌, Some}
 use Prim.Native.Nat.{ℕ, ◌+◌, ◌≤◌, ◌<◌}
 use mathlib.Core.Path.{◌≡◌, refl, ap, ◌∙◌}
 use mathlib.Core.Bool.{Bool, true, false}
-use mathlib.Core.Option.{some}
 use mathlib.Core.List.{List, [], ◌++◌}
 use native.Mathlib.Omega.{arith}
 use lib.ListN.{length}
@@ -26,15 +25,15 @@ use Rattle.lowering.proofs.Theorem.{lowered_none, state_start}
 
 pub record Remains (mc ac : ℕ) (m : List ℕ) (x : Lowering) : Type 0 where
   pub row : row_kind x.circuit ≡ row_kind m
-  pub leaves : (i : ℕ) (a : Leaf) → look m i ≡ some (leaf_e a) → look x.circuit i ≡ some (leaf_e a)
+  pub leaves : (i : ℕ) (a : Leaf) → look m i ≡ Some (leaf_e a) → look x.circuit i ≡ Some (leaf_e a)
   pub roots : (r : ℕ) → In r x.roots → r < used x.circuit
   pub constraints : (q : ℕ) → In q (x.main ++ x.aux) → q < used x.circuit
-  pub main_new : (k : ℕ) → k < length x.main → (n : ℕ) × (look x.circuit n ≡ some (leaf_e (input_leaf (Main (mc + k)))))
-  pub aux_new : (k : ℕ) → k < length x.aux → (n : ℕ) × (look x.circuit n ≡ some (leaf_e (input_leaf (Aux (ac + k)))))
+  pub main_new : (k : ℕ) → k < length x.main → (n : ℕ) × (look x.circuit n ≡ Some (leaf_e (input_leaf (Main (mc + k)))))
+  pub aux_new : (k : ℕ) → k < length x.aux → (n : ℕ) × (look x.circuit n ≡ Some (leaf_e (input_leaf (Aux (ac + k)))))
 
-leaf_stays : {T : ℕ} {c c' : Look} {g g' : ℕ → Bool} {rs rs' qs ss : List ℕ} {ys : List Position} → Lowered T c g rs c' g' rs' ys qs ss → (i : ℕ) (a : Leaf) → c i ≡ some (leaf_e a) → c' i ≡ some (leaf_e a)
+leaf_stays : {T : ℕ} {c c' : Look} {g g' : ℕ → Bool} {rs rs' qs ss : List ℕ} {ys : List Position} → Lowered T c g rs c' g' rs' ys qs ss → (i : ℕ) (a : Leaf) → c i ≡ Some (leaf_e a) → c' i ≡ Some (leaf_e a)
 leaf_stays stop i a h = h
-leaf_stays (step high choice st rest) i a h = let (e, p, k) = st.step.move.old i (leaf_e a) h in leaf_stays rest i a (p ∙ ap some k)
+leaf_stays (step high choice st rest) i a h = let (e, p, k) = st.step.move.old i (leaf_e a) h in leaf_stays rest i a (p ∙ ap Some k)
 
 remains_some : (T mc ac : ℕ) (m roots : List ℕ) → 2 ≤ T → State mc ac (start m roots) → Remains mc ac m (lowered T mc ac m roots)
 unfolding lowered

@@ -1,9 +1,9 @@
 -- A tree without the chosen node in it stays as it is: its nodes' expressions, marks and counts, and so the tree. Assumes nothing.
+use Rattle.std.specs.Prelude.{Some}
 use Prim.Native.Nat.{ℕ}
 use mathlib.Core.Path.{◌≡◌, refl, sym, ◌∙◌, ap}
 use mathlib.Core.Logic.{◌≢◌, ◌⊎◌, inl, inr}
 use mathlib.Core.Bool.{Bool, true, false}
-use mathlib.Core.Option.{some}
 use mathlib.Core.List.{List, [], ◌∷◌}
 use Rattle.layout.specs.declared.node.Position.{Position}
 use Rattle.layout.specs.declared.node.Node.{Node}
@@ -27,7 +27,7 @@ operand_stays h (inl e) = e
 operand_stays h (inr (e, k)) = absurd (h e)
 
 abbrev Says : Look → Look → ℕ → Type 0
-Says c c' j = (e : Expr) × (c j ≡ some e) × (c' j ≡ some e)
+Says c c' j = (e : Expr) × (c j ≡ Some e) × (c' j ≡ Some e)
 
 -- each node of a tree without the chosen node says what it said
 pub record SameTree (c c' : Look) (t : Tree) (i : ℕ) : Type 0 where
@@ -39,22 +39,22 @@ module _ {c c' : Look} {s n : ℕ} {y : Position} {u : Shape} (move : Move c c' 
   unfolding walk
   true_kept (leaf j a) i (e, p) h =
       let (e', p', k) = move.old i (leaf_e a) p in
-      let q : c' i ≡ some (leaf_e a) = p' ∙ ap some k in
+      let q : c' i ≡ Some (leaf_e a) = p' ∙ ap Some k in
       record { tree = (e, q); says = λ z w. here z w (p, q) }
     where
-      here : (z : ℕ) → In z (j ∷ []) → (c i ≡ some (leaf_e a)) × (c' i ≡ some (leaf_e a)) → Says c c' z
+      here : (z : ℕ) → In z (j ∷ []) → (c i ≡ Some (leaf_e a)) × (c' i ≡ Some (leaf_e a)) → Says c c' z
       here z (inl w) (p, q) = let d : z ≡ i = w ∙ e in (leaf_e a, rw d p, rw d q)
       here z (inr w) b = absurd w
   true_kept (branch j o a b) i (e, l, r, p, v, w) h =
       let (e', p', (l', r', k, ml, mr)) = move.old i (op_e o l r) p in
       let el : l' ≡ l = operand_stays (h l (in_left l (walk a) (j ∷ walk b) (walk_top c a l v))) ml in
       let er : r' ≡ r = operand_stays (h r (in_right r (walk a) (j ∷ walk b) (inr (walk_top c b r w)))) mr in
-      let q : c' i ≡ some (op_e o l r) = cc in
+      let q : c' i ≡ Some (op_e o l r) = cc in
       let f = true_kept a l v (λ z d. h z (in_left z (walk a) (j ∷ walk b) d)) in
       let g = true_kept b r w (λ z d. h z (in_right z (walk a) (j ∷ walk b) (inr d))) in
       record { tree = (e, l, r, q, f.tree, g.tree); says = λ z d. here z (f.says z) (g.says z) q (in_cases z (walk a) (j ∷ walk b) d) }
     where
-      here : (z : ℕ) → (In z (walk a) → Says c c' z) → (In z (walk b) → Says c c' z) → c' i ≡ some (op_e o l r) → In z (walk a) ⊎ In z (j ∷ walk b) → Says c c' z
+      here : (z : ℕ) → (In z (walk a) → Says c c' z) → (In z (walk b) → Says c c' z) → c' i ≡ Some (op_e o l r) → In z (walk a) ⊎ In z (j ∷ walk b) → Says c c' z
       here z f g q (inl d) = f d
       here z f g q (inr (inl d)) = let d' : z ≡ i = d ∙ e in (op_e o l r, rw d' p, rw d' q)
       here z f g q (inr (inr d)) = g d
@@ -64,9 +64,9 @@ node_is : (a b : Node) → a.expression ≡ b.expression → a.registered ≡ b.
 node_is a b p q r = λ i. record { expression = p i; registered = q i; references = r i }
 
 module _ {T mc ac : ℕ} (x x₁ : Lowering) (one : OneMore T mc ac x x₁) where
-  node_stays : (j : ℕ) (e : Expr) → look x.circuit j ≡ some e → look x₁.circuit j ≡ some e → j ≢ one.s → node_at x₁.circuit j ≡ node_at x.circuit j
+  node_stays : (j : ℕ) (e : Expr) → look x.circuit j ≡ Some e → look x₁.circuit j ≡ Some e → j ≢ one.s → node_at x₁.circuit j ≡ node_at x.circuit j
   node_stays j e p q h =
-      node_is (node_at x₁.circuit j) (node_at x.circuit j) (says x₁.circuit j (expression_at x.circuit j) (q ∙ ap some (sym (look_is x.circuit j e p))))
+      node_is (node_at x₁.circuit j) (node_at x.circuit j) (says x₁.circuit j (expression_at x.circuit j) (q ∙ ap Some (sym (look_is x.circuit j e p))))
       (mark (registered x.circuit j) refl) (one.counts j (look_lt x.circuit j e p))
     where
       mark : (b : Bool) → registered x.circuit j ≡ b → registered x₁.circuit j ≡ registered x.circuit j

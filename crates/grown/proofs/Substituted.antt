@@ -1,11 +1,10 @@
 -- One substitution keeps no two registered nodes alike: the chosen node is loose, the new input is like no other, and the constraint is built by the
 -- building steps, which look before they make. Assumes nothing.
-use Rattle.std.specs.Prelude.{if◌then◌else◌}
+use Rattle.std.specs.Prelude.{if◌then◌else◌, Some}
 use Prim.Native.Nat.{ℕ, suc, ◌+◌, ◌*◌, ◌≤◌, ◌<◌}
 use mathlib.Core.Path.{◌≡◌, sym, ap, ◌∙◌}
 use mathlib.Core.Logic.{◌≢◌, ⊎_elim}
 use mathlib.Core.Bool.{Bool, true, false}
-use mathlib.Core.Option.{some}
 use mathlib.Core.List.{List}
 use native.Mathlib.Omega.{arith}
 use lib.ListN.{length}
@@ -35,7 +34,7 @@ pub limit_room : (m : List ℕ) (k : ℕ) → 2 ≤ length m → k ≤ limit m �
 unfolding limit
 limit_room m k two h = omega arith
 
-module _ (m : List ℕ) (sound : Sound m) (s : ℕ) (u : Shape) (large : 3 ≤ deg u) (at-s : Unf (look m) u s) (y : Position) (fresh : (i : ℕ) → look m i ≢ some (leaf_e (input_leaf y)))
+module _ (m : List ℕ) (sound : Sound m) (s : ℕ) (u : Shape) (large : 3 ≤ deg u) (at-s : Unf (look m) u s) (y : Position) (fresh : (i : ℕ) → look m i ≢ Some (leaf_e (input_leaf y)))
     (kind : is_main y ≡ true → base_s u ≡ true) where
   abbrev after : List ℕ
   after = two m sound s u large at-s y fresh kind

@@ -1,8 +1,8 @@
 -- A whole trace of a circuit's latest lowering: what holds of any lists, and the roots' values. Assumes nothing.
+use Rattle.std.specs.Prelude.{Some}
 use Prim.Native.Nat.{ℕ, ◌+◌, ◌*◌, ◌/◌, ◌≤◌, ◌<◌}
 use mathlib.Core.Path.{◌≡◌, refl, sym, ap, ap₂, ◌∙◌}
 use mathlib.Core.Bool.{Bool, true, false}
-use mathlib.Core.Option.{some}
 use mathlib.Core.List.{List, [], ◌++◌}
 use native.Mathlib.Omega.{arith}
 use lib.ListN.{length, replicate}
@@ -72,9 +72,9 @@ module _ (T mc ac : ℕ) (lent : Lowering) (h : (lower_call T mc ac lent).number
       has_used lent.circuit t r w
 
   -- an input of the next row is one of the circuit since then
-  two_rows : (i : ℕ) (q : Position) → is_next q ≡ true → look lent.circuit i ≡ some (leaf_e (input_leaf q)) → row_kind m' ≡ 2
+  two_rows : (i : ℕ) (q : Position) → is_next q ≡ true → look lent.circuit i ≡ Some (leaf_e (input_leaf q)) → row_kind m' ≡ 2
   two_rows i q e k =
-      let k' : look after.circuit i ≡ some (leaf_e (input_leaf q)) = left.leaves i (input_leaf q) k in
+      let k' : look after.circuit i ≡ Some (leaf_e (input_leaf q)) = left.leaves i (input_leaf q) k in
       let here : i < used after.circuit = look_lt after.circuit i (leaf_e (input_leaf q)) k' in
       let more = kept.more in
       dual m' valid' q e (fair m' valid' i (omega arith) (Input q) (kept.expressions i here ∙ says after.circuit i (Input q) k'))
@@ -97,7 +97,7 @@ module _ (T mc ac : ℕ) (lent : Lowering) (h : (lower_call T mc ac lent).number
 
     -- where a root was too high, COLUMNS has looked at every input: each is an old column's, and those are as they were in both rows
     module _ (high : too_high T lent.circuit lent.roots ≡ true) where
-      taken : (i : ℕ) (q : Position) → look lent.circuit i ≡ some (leaf_e (input_leaf q)) → Taken (mc + 0) (ac + 0) q
+      taken : (i : ℕ) (q : Position) → look lent.circuit i ≡ Some (leaf_e (input_leaf q)) → Taken (mc + 0) (ac + 0) q
       taken i q k =
           let (f, g) = first_tests T mc ac lent (accepts.accepted T mc ac lent h) in
           columns_start mc ac lent.circuit lent.roots (then_tests_lem T mc ac lent (rw high at g)).columns i q k
@@ -106,7 +106,7 @@ module _ (T mc ac : ℕ) (lent : Lowering) (h : (lower_call T mc ac lent).number
       unfolding assigned seen row_main row_aux lent_main lent_aux
       agrees = record { inputs = at; challenges = λ k. refl }
         where
-          at : (i : ℕ) (q : Position) → look lent.circuit i ≡ some (leaf_e (input_leaf q)) → input_value (assigned seen.0 seen.1 challenges) q ≡ input_value (assigned lent_main lent_aux challenges) q
+          at : (i : ℕ) (q : Position) → look lent.circuit i ≡ Some (leaf_e (input_leaf q)) → input_value (assigned seen.0 seen.1 challenges) q ≡ input_value (assigned lent_main lent_aux challenges) q
           at i (Main c) k = ap lift (main_current mc ac m' after.main after.aux challenges rows main aux ok main' aux' is r l c (omega (arith, taken i (Main c) k)))
           at i (Aux c) k = triple_same seen.1 lent_aux ac c (omega (arith, taken i (Aux c) k)) (aux_current mc ac m' after.main after.aux challenges rows main aux ok main' aux' is r l)
           at i (NextMain c) k = ap lift (main_after mc ac m' after.main after.aux challenges rows main aux ok main' aux' is r l (two_rows i (NextMain c) refl k) c (omega (arith, taken i (NextMain c) k)))

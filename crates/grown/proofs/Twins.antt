@@ -1,10 +1,10 @@
 -- All that stands in a new constraint is quiet, also where it is over a loose twin of the chosen node: what of it stands below the roots stands below the
 -- chosen node too, since no two registered nodes are alike. Assumes nothing.
+use Rattle.std.specs.Prelude.{Some}
 use Prim.Native.Nat.{ℕ, ◌≤◌, ◌<◌}
 use mathlib.Core.Path.{◌≡◌, refl, sym, ◌∙◌, ap, ap₂, subst}
 use mathlib.Core.Logic.{◌≢◌, ◌⊎◌, inl, inr}
 use mathlib.Core.Bool.{true}
-use mathlib.Core.Option.{some}
 use mathlib.Core.List.{List, ◌∷◌}
 use native.Mathlib.Omega.{arith}
 use Rattle.arithmetic.specs.Base.{minus_one}
@@ -67,19 +67,19 @@ mirror c c' (branch j o a b) (branch k o' a' b') i i' (e, l, r, p, v, w) (e', l'
     go f g (inr (inr q)) = let x = g q in record { node = x.node; stands = in_right x.node (walk a) (j ∷ walk b) (inr x.stands); form = x.form; is = x.is; was = x.was }
 
 -- a shape of c has no input at a column that c doesn't read
-sub_none : {c : Look} {y : Position} (u : Shape) → ((i : ℕ) → c i ≢ some (leaf_e (input_leaf y))) → (t : Shape) (i : ℕ) → Unf c t i → sub y u t ≡ t
+sub_none : {c : Look} {y : Position} (u : Shape) → ((i : ℕ) → c i ≢ Some (leaf_e (input_leaf y))) → (t : Shape) (i : ℕ) → Unf c t i → sub y u t ≡ t
 sub_none {c} {y} u fresh (lf a) i p = sub_leaf y u a (λ e. fresh i (rw e at p))
 sub_none u fresh (op o a b) i (l, r, p, v, w) = ap₂ (op o) (sub_none u fresh a l v) (sub_none u fresh b r w)
 
 -- what stands in an operation's tree, and in a leaf's
 module _ (m : List ℕ) where
-  part_leaf : (t : Tree) (i z : ℕ) (a : Leaf) → Tru (look m) t i → look m i ≡ some (leaf_e a) → In z (walk t) → z ≡ i
+  part_leaf : (t : Tree) (i z : ℕ) (a : Leaf) → Tru (look m) t i → look m i ≡ Some (leaf_e a) → In z (walk t) → z ≡ i
   unfolding walk
   part_leaf (leaf j b) i z a (e, p) q (inl h) = h ∙ e
   part_leaf (leaf j b) i z a (e, p) q (inr h) = absurd h
   part_leaf (branch j o b d) i z a (e, l, r, p, v, w) q h = absurd (let n : ◌≡◌ {A = ℕ} 0 1 = cc in omega arith)
 
-  part_op : (t : Tree) (i z l r : ℕ) (o : Op) → Tru (look m) t i → look m i ≡ some (op_e o l r) → In z (walk t) → (z ≡ i) ⊎ (In z (walk (tree m l)) ⊎ In z (walk (tree m r)))
+  part_op : (t : Tree) (i z l r : ℕ) (o : Op) → Tru (look m) t i → look m i ≡ Some (op_e o l r) → In z (walk t) → (z ≡ i) ⊎ (In z (walk (tree m l)) ⊎ In z (walk (tree m r)))
   unfolding walk
   part_op (leaf j b) i z l r o (e, p) q h = absurd (let n : ◌≡◌ {A = ℕ} 0 1 = cc in omega arith)
   part_op (branch j o' a b) i z l r o (e, l', r', p, v, w) q h =
@@ -117,7 +117,7 @@ module _ (T mc ac : ℕ) (two : 2 ≤ T) (x x₁ : Lowering) (state : State mc a
       let (t, w) = below_tree after.rooted r k in
       walk_below (look m₁) x₁.roots (tree m₁ r) r (tree_of m₁ t r w) k z b
 
-  leaf_quiet : (i : ℕ) (a : Leaf) → look m₁ i ≡ some (leaf_e a) → Quiet T x₁ i
+  leaf_quiet : (i : ℕ) (a : Leaf) → look m₁ i ≡ Some (leaf_e a) → Quiet T x₁ i
   leaf_quiet i a p h = omega (arith, degree_is m₁ (lf a) i p, leaf_low a)
 
   -- no node of the chosen node's shape stands below the roots
@@ -136,7 +136,7 @@ module _ (T mc ac : ℕ) (two : 2 ≤ T) (x x₁ : Lowering) (state : State mc a
           (shape_is m one.u one.s one.choice.tree ∙ sym (shape_is m₁ one.u e w)) z h
 
       go : (z ≡ one.n) ⊎ (Below (look m) x.roots z × (z ≢ one.s)) → degree⁺ (tree m₁ z) ≤ 2
-      go (inl k) = let p : look m₁ z ≡ some (leaf_e (input_leaf one.y)) = rw k move.new in leaf_quiet z (input_leaf one.y) p some_left
+      go (inl k) = let p : look m₁ z ≡ Some (leaf_e (input_leaf one.y)) = rw k move.new in leaf_quiet z (input_leaf one.y) p some_left
       go (inr (b, k)) =
           let (t, v) = below_tree state.rooted z b in
           let (t', v', g) = tree_after move t z v in

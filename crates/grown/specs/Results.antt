@@ -1,7 +1,6 @@
 -- What building gives, as trees: the operation of its operands' trees, up to simplification, folding and operand order. And circuits in which no
 -- two registered nodes are equal. Assumes nothing.
-use Rattle.std.specs.Prelude.{ℕ, ◌<◌, ◌≡◌, Bool, true, false, ◌||◌, List, [], ◌∷◌}
-use Rattle.std.proofs.Math.Option.{Option, none, some}
+use Rattle.std.specs.Prelude.{ℕ, ◌<◌, ◌≡◌, Bool, true, false, ◌||◌, List, [], ◌∷◌, Option, None, Some}
 use Rattle.arithmetic.specs.declared.Triple.{Triple}
 use Rattle.arithmetic.specs.Base.{minus_one}
 use Rattle.arithmetic.specs.Extension.{lift}
@@ -13,11 +12,11 @@ use Rattle.layout.specs.Tree.{base_leaf, extension_leaf, challenge_leaf, input_l
 
 -- the constant that a tree is
 abbrev pub constant_tree : Tree → Option Triple
-constant_tree (leaf i (base_leaf w)) = some (lift w)
-constant_tree (leaf i (extension_leaf x)) = some x
-constant_tree (leaf i (challenge_leaf k)) = none
-constant_tree (leaf i (input_leaf q)) = none
-constant_tree (branch i o l r) = none
+constant_tree (leaf i (base_leaf w)) = Some (lift w)
+constant_tree (leaf i (extension_leaf x)) = Some x
+constant_tree (leaf i (challenge_leaf k)) = None
+constant_tree (leaf i (input_leaf q)) = None
+constant_tree (branch i o l r) = None
 
 -- the tree of a leaf
 abbrev pub leaf_tree : ℕ → Expression → Tree
@@ -25,13 +24,13 @@ leaf_tree i e = tree_over i e (λ j. leaf j (base_leaf 0))
 
 -- u is what adding or multiplying s and t gives
 pub data Operated : Op → Tree → Tree → Tree → Type 0 where
-  plus_zero : {s t : Tree} → constant_tree t ≡ some (lift 0) → Operated Add s t s
-  zero_plus : {s t : Tree} → constant_tree s ≡ some (lift 0) → Operated Add s t t
-  times_one : {s t : Tree} → constant_tree t ≡ some (lift 1) → Operated Multiply s t s
-  one_times : {s t : Tree} → constant_tree s ≡ some (lift 1) → Operated Multiply s t t
-  times_zero : {s t : Tree} → constant_tree t ≡ some (lift 0) → Operated Multiply s t t
-  zero_times : {s t : Tree} → constant_tree s ≡ some (lift 0) → Operated Multiply s t s
-  folded : {o : Op} {s t u : Tree} (i : ℕ) (x y : Triple) → constant_tree s ≡ some x → constant_tree t ≡ some y → same u (leaf_tree i (constant (apply o x y))) ≡ true → Operated o s t u
+  plus_zero : {s t : Tree} → constant_tree t ≡ Some (lift 0) → Operated Add s t s
+  zero_plus : {s t : Tree} → constant_tree s ≡ Some (lift 0) → Operated Add s t t
+  times_one : {s t : Tree} → constant_tree t ≡ Some (lift 1) → Operated Multiply s t s
+  one_times : {s t : Tree} → constant_tree s ≡ Some (lift 1) → Operated Multiply s t t
+  times_zero : {s t : Tree} → constant_tree t ≡ Some (lift 0) → Operated Multiply s t t
+  zero_times : {s t : Tree} → constant_tree s ≡ Some (lift 0) → Operated Multiply s t s
+  folded : {o : Op} {s t u : Tree} (i : ℕ) (x y : Triple) → constant_tree s ≡ Some x → constant_tree t ≡ Some y → same u (leaf_tree i (constant (apply o x y))) ≡ true → Operated o s t u
   swapped : {o : Op} {s t u : Tree} (i : ℕ) → same u (branch i o t s) ≡ true → Operated o s t u
   straight : {o : Op} {s t u : Tree} (i : ℕ) → same u (branch i o s t) ≡ true → Operated o s t u
 

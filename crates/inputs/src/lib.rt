@@ -32,18 +32,13 @@ pub fn read_full<R: Read>(input: &mut R, part: &mut [u8]) -> io::Result<usize>
 pub fn argument(rt: &impl Env, i: usize, name: &mut [u8]) -> usize
     ensures { result ≤ length name.new }
 {
-    match rt.arg(i, name) {
-        Ok(n) => n,
-        Err(_) => 0,
-    }
+    rt.arg(i, name).unwrap_or(0)
 }
 
 // Opens the file of this name for reading; none where it cannot be opened, or its name is no text.
 pub fn opened<R: Files>(rt: &R, name: &[u8]) -> Option<R::File>
     ensures { IsSome result → IsUtf8 name.now }
 {
-    match str::from_utf8(name) {
-        Ok(path) => fs::open(rt, path).ok(),
-        Err(_) => None,
-    }
+    let path = str::from_utf8(name).ok()?;
+    fs::open(rt, path).ok()
 }

@@ -1,6 +1,7 @@
 -- Laws of building calls with kept tables: what a call answers, and that its tables fit what it leaves. Assumes nothing.
+use Rattle.std.specs.Prelude.{None, Option, Some, Result, Err}
 use Prim.Native.Nat.{ℕ, suc, ◌<◌, ◌≤◌}
-use mathlib.Core.Path.{◌≡◌, sym, ◌∙◌}
+use mathlib.Core.Path.{◌≡◌, sym, ◌∙◌, refl}
 use mathlib.Core.Bool.{Bool, false, ◌||◌}
 use mathlib.Core.List.{List, [], ◌∷◌, ◌++◌}
 use borrow.Author.Tests.{leb-false}
@@ -13,12 +14,11 @@ use Rattle.layout.specs.NotCircuit.{bad_row, bad_index, bad_word, bad_words, bad
 use Rattle.layout.specs.Outcomes.{refusal}
 use Rattle.layout.proofs.Tests.{neither, or-false}
 use Rattle.layout.proofs.Refusals.{refusal_here, refusal_next, bad_id_here, bad_id_next, no_bad_id}
-use Rattle.building.specs.declared.Answer.{Answer}
-use Rattle.building.specs.declared.Answer.TheVariants.{Refused}
+use Rattle.layout.specs.declared.refusal.Refusal.{Refusal}
+use Rattle.layout.specs.declared.refusal.Refusal.TheVariants.{BadId}
+use Rattle.layout.specs.Refusals.{number_of}
 use Rattle.building.specs.Building.{Built, full}
 use Rattle.building.specs.Calls.{building}
-use Rattle.build.specs.declared.steps.Made.{Made}
-use Rattle.build.specs.declared.steps.Made.TheVariants.{At, Full}
 use Rattle.build.specs.Inner.{Buildable, Stepped}
 use Rattle.build.proofs.Stepping.{constant_good}
 use Rattle.build_calls.specs.Answers.{answer_of, ending}
@@ -27,37 +27,37 @@ use Rattle.kept.specs.Keeps.{Keeps, KeptAnswer}
 
 -- the inner form's answer
 
-stepped_buildable : (m : List ℕ) (b : Built) (r : Made) (m' num t least : List ℕ) → Stepped m b r m' num t least → Buildable m' num t least
-stepped_buildable m b (At i) m' num t least s = s.told.buildable
-stepped_buildable m b Full m' num t least s = s.told.left.buildable
+stepped_buildable : (m : List ℕ) (b : Built) (r : Option ℕ) (m' num t least : List ℕ) → Stepped m b r m' num t least → Buildable m' num t least
+stepped_buildable m b (Some i) m' num t least s = s.told.buildable
+stepped_buildable m b None m' num t least s = s.told.left.buildable
 
-pub kept_ends : (m : List ℕ) (b : Built) (r : Made) (a : Answer) (m' num t least : List ℕ) → a ≡ answer_of r → Stepped m b r m' num t least → KeptAnswer (ending m b) a m' num t least
+pub kept_ends : (m : List ℕ) (b : Built) (r : Option ℕ) (a : Result ℕ Refusal) (m' num t least : List ℕ) → a ≡ answer_of r → Stepped m b r m' num t least → KeptAnswer (ending m b) a m' num t least
 kept_ends m b r a m' num t least e s = record { answer = ends m b r a m' num t least e s; buildable = stepped_buildable m b r m' num t least s }
 
 -- the call's own tests, on a circuit that is known to be one
 
 module _ (m num t least : List ℕ) (known : Buildable m num t least) (tests : List (ℕ × Bool)) (b : Built) where
   -- one of them applies, and nothing is changed
-  pub kept_refused : (k : ℕ) → refusal (tests ++ ((6, full m b) ∷ [])) ≡ suc k → KeptAnswer (building m tests b) (Refused (suc k)) m num t least
-  kept_refused k r = record { answer = sym (refuses_by m tests b k known.circuit r); buildable = known }
+  pub kept_refused : (r : Refusal) (k : ℕ) → number_of r ≡ suc k → refusal (tests ++ ((6, full m b) ∷ [])) ≡ suc k → KeptAnswer (building m tests b) (Err r) m num t least
+  kept_refused r k is e = record { answer = rw is (sym (refuses_by m tests b k known.circuit e)); buildable = known }
 
   -- none does, and the inner form answers
-  pub kept_call : (a : Answer) (m' num' t' least' : List ℕ) → refusal (tests ++ ((6, full m b) ∷ [])) ≡ refusal ((6, full m b) ∷ []) → KeptAnswer (ending m b) a m' num' t' least' → KeptAnswer (building m tests b) a m' num' t' least'
+  pub kept_call : (a : Result ℕ Refusal) (m' num' t' least' : List ℕ) → refusal (tests ++ ((6, full m b) ∷ [])) ≡ refusal ((6, full m b) ∷ []) → KeptAnswer (ending m b) a m' num' t' least' → KeptAnswer (building m tests b) a m' num' t' least'
   kept_call a m' num' t' least' r k = record { answer = k.answer ∙ sym (only_full m tests b known.circuit r); buildable = k.buildable }
 
 -- and those of two ids
 
 module _ (m num t least : List ℕ) (known : Buildable m num t least) (i j : ℕ) (b : Built) where
-  abbrev NodesAnswer : Answer → List ℕ → List ℕ → List ℕ → List ℕ → Type 0
+  abbrev NodesAnswer : Result ℕ Refusal → List ℕ → List ℕ → List ℕ → List ℕ → Type 0
   NodesAnswer = KeptAnswer (building m ((2, bad_id m (i ∷ j ∷ [])) ∷ []) b)
 
-  pub left_refused : used m ≤ i → NodesAnswer (Refused 2) m num t least
-  left_refused h = kept_refused m num t least known _ b 1 (refusal_here 2 _ _ (bad_id_here m i _ h))
+  pub left_refused : used m ≤ i → NodesAnswer (Err BadId) m num t least
+  left_refused h = kept_refused m num t least known _ b BadId 1 refl (refusal_here 2 _ _ (bad_id_here m i _ h))
 
-  pub right_refused : i < used m → used m ≤ j → NodesAnswer (Refused 2) m num t least
-  right_refused l h = kept_refused m num t least known _ b 1 (refusal_here 2 _ _ (bad_id_next m i _ l ∙ bad_id_here m j [] h))
+  pub right_refused : i < used m → used m ≤ j → NodesAnswer (Err BadId) m num t least
+  right_refused l h = kept_refused m num t least known _ b BadId 1 refl (refusal_here 2 _ _ (bad_id_next m i _ l ∙ bad_id_here m j [] h))
 
-  pub both_ends : (r : Made) (a : Answer) (m' num' t' least' : List ℕ) → i < used m → j < used m → a ≡ answer_of r → Stepped m b r m' num' t' least' → NodesAnswer a m' num' t' least'
+  pub both_ends : (r : Option ℕ) (a : Result ℕ Refusal) (m' num' t' least' : List ℕ) → i < used m → j < used m → a ≡ answer_of r → Stepped m b r m' num' t' least' → NodesAnswer a m' num' t' least'
   both_ends r a m' num' t' least' l h e s =
       kept_call m num t least known _ b a m' num' t' least' (refusal_next 2 _ _ (bad_id_next m i _ l ∙ bad_id_next m j [] h ∙ no_bad_id m)) (kept_ends m b r a m' num' t' least' e s)
 

@@ -1,5 +1,5 @@
 -- Laws of kept tables: what a start, a lowering and a request leave is a circuit, with tables that fit it. Assumes nothing.
-use Rattle.std.specs.Prelude.{if◌then◌else◌}
+use Rattle.std.specs.Prelude.{if◌then◌else◌, Result}
 use Prim.Native.Nat.{ℕ, zero, suc, ◌≤◌}
 use mathlib.Core.Path.{◌≡◌, refl, sym, ap, ◌∙◌}
 use mathlib.Core.Bool.{Bool, true, false, not}
@@ -18,7 +18,7 @@ use Rattle.layout.specs.Outcomes.{Outcome, numbered, outcome, refusal}
 use Rattle.layout.specs.Calls.{start_call}
 use Rattle.layout.proofs.Lists.{clash}
 use Rattle.layout.proofs.Refusals.{refusal_here, refusal_next, refusal_none, outcome_refused, outcome_accepted}
-use Rattle.building.specs.declared.Answer.{Answer}
+use Rattle.layout.specs.declared.refusal.Refusal.{Refusal}
 use Rattle.building.specs.Building.{negated}
 use Rattle.building.specs.Calls.{building, negate_call}
 use Rattle.build.specs.Inner.{Buildable}
@@ -121,12 +121,12 @@ module _ (m rs main aux num t least : List ℕ) (request q : Request) (k : Timel
 -- a building call's answer, as a reply
 
 module _ (m rs main aux : List ℕ) where
-  pub id_kept : (o : Outcome ℕ (List ℕ)) (a : Answer) (r : Reply) (m' num t least : List ℕ) → r ≡ id_reply a → KeptAnswer o a m' num t least
+  pub id_kept : (o : Outcome ℕ (List ℕ)) (a : Result ℕ Refusal) (r : Reply) (m' num t least : List ℕ) → r ≡ id_reply a → KeptAnswer o a m' num t least
       → (told r m' rs main aux ≡ id_answer (lent m rs main aux) o) × Keeps m' num t least
   id_kept o a r m' num t least is k = (id_told m rs main aux o a r m' is k.answer, buildable_keeps m' num t least k.buildable)
 
   -- a negation is asked of one node as both
-  pub negate_kept : (i : ℕ) (a : Answer) (r : Reply) (m' num t least : List ℕ) → r ≡ id_reply a
+  pub negate_kept : (i : ℕ) (a : Result ℕ Refusal) (r : Reply) (m' num t least : List ℕ) → r ≡ id_reply a
       → KeptAnswer (building m ((2, bad_id m (i ∷ i ∷ [])) ∷ []) (negated m i)) a m' num t least → (told r m' rs main aux ≡ id_answer (lent m rs main aux) (negate_call m i)) × Keeps m' num t least
   unfolding negate_call
   negate_kept i a r m' num t least is k = rw (← one_twice m i) (id_kept _ a r m' num t least is k)

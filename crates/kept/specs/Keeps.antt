@@ -1,10 +1,10 @@
 -- Class tables that are kept from line to line. Assumes nothing.
-use Rattle.std.specs.Prelude.{ℕ, ◌<◌, ◌≤◌, ◌≡◌, true, false, List, length}
+use Rattle.std.specs.Prelude.{ℕ, ◌<◌, ◌≤◌, ◌≡◌, true, false, List, length, Result}
 use Rattle.layout.specs.Words.{row_kind, used}
 use Rattle.layout.specs.NotCircuit.{not_circuit}
 use Rattle.layout.specs.Outcomes.{Outcome}
 use Rattle.classes.specs.Numbers.{Sized}
-use Rattle.building.specs.declared.Answer.{Answer}
+use Rattle.layout.specs.declared.refusal.Refusal.{Refusal}
 use Rattle.building.specs.Told.{told_id}
 use Rattle.build.specs.Inner.{Buildable}
 use Rattle.build_calls.specs.declared.calls.Request.{Request}
@@ -24,7 +24,7 @@ pub record Keeps (m num t least : List ℕ) : Type 0 where
   pub fitting : (row_kind m ≡ 0 → ⊥) → Buildable m num t least
 
 -- a call's answer, and tables that fit
-pub record KeptAnswer (o : Outcome ℕ (List ℕ)) (a : Answer) (m' num t least : List ℕ) : Type 0 where
+pub record KeptAnswer (o : Outcome ℕ (List ℕ)) (a : Result ℕ Refusal) (m' num t least : List ℕ) : Type 0 where
   pub answer : told_id a m' ≡ o
   pub buildable : Buildable m' num t least
 

@@ -12,11 +12,10 @@ use build::constants::constant;
 use build::steps::find_or_make;
 use build_calls::calls;
 use build_calls::calls::{answered, step};
-use building::Answer;
 use circuit::check::{bad_index, bad_row, bad_word, bad_words};
 use circuit::place::column_of;
 use layout::node::{Expression, Position};
-use layout::refusal::{BAD_ID, BAD_INDEX, BAD_ROW, BAD_WORD};
+use layout::refusal::Refusal;
 
 fn leaf(
     m: &mut [u64],
@@ -24,7 +23,7 @@ fn leaf(
     table: &mut [u64],
     least: &mut [u64],
     e: Expression,
-) -> Answer
+) -> Result<u64, Refusal>
     requires { Makable m.old numbers.old table.old least.old e }
     ensures { KeptAnswer (ending m.old (find_or_make m.old e)) result m.new numbers.new table.new least.new }
 {
@@ -37,15 +36,15 @@ pub(crate) fn input(
     table: &mut [u64],
     least: &mut [u64],
     q: Position,
-) -> Answer
+) -> Result<u64, Refusal>
     requires { Buildable m.old numbers.old table.old least.old }
     ensures { KeptAnswer (input_call m.old q) result m.new numbers.new table.new least.new }
 {
     if bad_row(m, q) {
-        return Answer::Refused(BAD_ROW);
+        return Err(Refusal::BadRow);
     }
     if bad_index(column_of(q)) {
-        return Answer::Refused(BAD_INDEX);
+        return Err(Refusal::BadIndex);
     }
     leaf(m, numbers, table, least, Expression::Input(q))
 }
@@ -56,12 +55,12 @@ pub(crate) fn challenge(
     table: &mut [u64],
     least: &mut [u64],
     k: u64,
-) -> Answer
+) -> Result<u64, Refusal>
     requires { Buildable m.old numbers.old table.old least.old }
     ensures { KeptAnswer (challenge_call m.old k) result m.new numbers.new table.new least.new }
 {
     if bad_index(k) {
-        return Answer::Refused(BAD_INDEX);
+        return Err(Refusal::BadIndex);
     }
     leaf(m, numbers, table, least, Expression::Challenge(k))
 }
@@ -72,12 +71,12 @@ pub(crate) fn base(
     table: &mut [u64],
     least: &mut [u64],
     w: u64,
-) -> Answer
+) -> Result<u64, Refusal>
     requires { Buildable m.old numbers.old table.old least.old }
     ensures { KeptAnswer (base_call m.old w) result m.new numbers.new table.new least.new }
 {
     if bad_word(w) {
-        return Answer::Refused(BAD_WORD);
+        return Err(Refusal::BadWord);
     }
     leaf(m, numbers, table, least, Expression::Base(w))
 }
@@ -88,12 +87,12 @@ pub(crate) fn extension(
     table: &mut [u64],
     least: &mut [u64],
     x: Triple,
-) -> Answer
+) -> Result<u64, Refusal>
     requires { Buildable m.old numbers.old table.old least.old }
     ensures { KeptAnswer (extension_call m.old x) result m.new numbers.new table.new least.new }
 {
     if bad_words(x) {
-        return Answer::Refused(BAD_WORD);
+        return Err(Refusal::BadWord);
     }
     leaf(m, numbers, table, least, constant(x))
 }
@@ -107,15 +106,15 @@ pub(crate) fn on_nodes(
     a: u64,
     b: u64,
     asked: calls::Request,
-) -> Answer
+) -> Result<u64, Refusal>
     requires { Askable m.old numbers.old table.old least.old a b asked }
     ensures { KeptAnswer (building m.old ((2, bad_id m.old (a ∷ b ∷ [])) ∷ []) (requested m.old asked)) result m.new numbers.new table.new least.new }
 {
     if m[1] <= a {
-        return Answer::Refused(BAD_ID);
+        return Err(Refusal::BadId);
     }
     if m[1] <= b {
-        return Answer::Refused(BAD_ID);
+        return Err(Refusal::BadId);
     }
     answered(step(m, numbers, table, least, asked))
 }

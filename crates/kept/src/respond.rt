@@ -11,7 +11,7 @@ use build_calls::calls;
 use frame::respond::{id_of, in_time, kind_of, lower_frame, root_frame, start_frame};
 use framing::{Reply, Request};
 use layout::node::Position;
-use layout::refusal::FRAME;
+use layout::refusal::Refusal;
 
 // The tables of what a start or a lowering left.
 fn renew(m: &[u64], numbers: &mut [u64], table: &mut [u64], least: &mut [u64])
@@ -77,7 +77,7 @@ fn input_frame(
         1 => id_of(input(m, numbers, table, least, Position::Aux(c))),
         2 => id_of(input(m, numbers, table, least, Position::NextMain(c))),
         3 => id_of(input(m, numbers, table, least, Position::NextAux(c))),
-        _ => Reply::Bare(FRAME),
+        _ => Reply::Bare(Refusal::Frame as u64),
     }
 }
 
@@ -115,7 +115,7 @@ fn answer_to(
         }
         Request::Root(i) => root_frame(m, roots, i),
         Request::Lower(t, a, b) => lower(m, roots, main, aux, numbers, table, least, t, a, b),
-        Request::Nothing => Reply::Bare(FRAME),
+        Request::Nothing => Reply::Bare(Refusal::Frame as u64),
     }
 }
 
@@ -133,7 +133,7 @@ pub fn respond(
     ensures { (told result m.new roots.new main.new aux.new ≡ replied (lent m.old roots.old main.old aux.old) request) × Keeps m.new numbers.new table.new least.new }
 {
     if !in_time(m, request) {
-        return Reply::Bare(FRAME);
+        return Reply::Bare(Refusal::Frame as u64);
     }
     answer_to(m, roots, main, aux, numbers, table, least, request)
 }

@@ -6,6 +6,7 @@ pub mod NotCircuit
 pub mod Lifted
 pub mod Outcomes
 pub mod Calls
+pub mod Refusals
 pub mod Answers
 pub mod Cycle
 pub mod Computing

@@ -4,8 +4,7 @@
 --   0 base constant: word. 1 extension constant: c0 c1 c2. 2 challenge: index. 3 add, 4 multiply: left id, right id.
 --   Input, 5 main, 6 auxiliary, 7 next main, 8 next auxiliary: column.
 --   A word that its kind doesn't name is ignored where it is read, and written as 0. Assumes nothing.
-use Rattle.std.specs.Prelude.{ℕ, ◌+◌, ◌-◌, ◌*◌, ◌/◌, min, Bool, true, false, List, [], ◌∷◌, ◌++◌, length, get_or, set, take, drop, eqb, if◌then◌else◌}
-use Rattle.std.proofs.Math.Option.{Option, none, some}
+use Rattle.std.specs.Prelude.{ℕ, ◌+◌, ◌-◌, ◌*◌, ◌/◌, min, Bool, true, false, List, [], ◌∷◌, ◌++◌, length, get_or, set, take, drop, eqb, if◌then◌else◌, Option, None, Some}
 use Rattle.arithmetic.specs.declared.Triple.{Triple}
 use Rattle.arithmetic.specs.Extension.{triple, lift, unlifts, plus, times}
 use Rattle.layout.specs.declared.node.RowKind.{RowKind}
@@ -119,11 +118,11 @@ made m e = set (take (offset (used m)) m ++ encode e ++ (1 ∷ 0 ∷ []) ++ drop
 
 -- the value of a constant
 abbrev pub constant_of : Expression → Option Triple
-constant_of (Base w) = some (lift w)
-constant_of (Extension x) = some x
-constant_of (Challenge k) = none
-constant_of (Operation o l r) = none
-constant_of (Input q) = none
+constant_of (Base w) = Some (lift w)
+constant_of (Extension x) = Some x
+constant_of (Challenge k) = None
+constant_of (Operation o l r) = None
+constant_of (Input q) = None
 
 -- an extension constant that unlifts becomes a base constant
 unfoldable pub constant : Triple → Expression

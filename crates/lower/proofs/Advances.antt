@@ -1,9 +1,8 @@
 -- One substitution more, where some root's degree exceeds the target: its constraint stands at the first free place of its list. Assumes nothing.
-use Rattle.std.specs.Prelude.{if◌then◌else◌}
+use Rattle.std.specs.Prelude.{if◌then◌else◌, None, Some, Option}
 use Prim.Native.Nat.{ℕ, ◌+◌, ◌<◌}
 use mathlib.Core.Path.{◌≡◌, refl, sym, ◌∙◌}
 use mathlib.Core.Bool.{Bool, true, false}
-use mathlib.Core.Option.{none, some}
 use mathlib.Core.List.{List, [], ◌∷◌, ◌++◌, append-nil}
 use native.Mathlib.Omega.{arith}
 use lib.ListN.{length, set, drop, length-append, length-drop}
@@ -12,8 +11,6 @@ use Rattle.layout.specs.Tree.{tree}
 use Rattle.paths.proofs.Written.{written_more}
 use Rattle.reading.specs.Readings.{is_base}
 use Rattle.lowering.specs.Lowering.{Lowering, too_high, candidates, best, substituted}
-use Rattle.lower.specs.declared.next.Next.{Next}
-use Rattle.lower.specs.declared.next.Next.TheVariants.{Node, Done}
 use Rattle.lower.specs.declared.substitute.Constraint.{Constraint}
 use Rattle.lower.specs.declared.calls.Progress.{Progress}
 use Rattle.lower.specs.Survey.{chosen_next, Picked}
@@ -22,19 +19,19 @@ use Rattle.lower.specs.Advancing.{Holds, Added, chosen, advanced, Ready, Advance
 
 -- what the next choice tells
 
-told_node_lem : (T : ℕ) (m roots : List ℕ) (s : ℕ) → some s ≡ chosen_next T m roots → (too_high T m roots ≡ true) × (s ≡ best (candidates T m roots))
+told_node_lem : (T : ℕ) (m roots : List ℕ) (s : ℕ) → Some s ≡ chosen_next T m roots → (too_high T m roots ≡ true) × (s ≡ best (candidates T m roots))
 unfolding chosen_next
 told_node_lem T m roots s e = go (too_high T m roots) e
   where
-    go : (b : Bool) → some s ≡ (if b then some (best (candidates T m roots)) else none) → (b ≡ true) × (s ≡ best (candidates T m roots))
+    go : (b : Bool) → Some s ≡ (if b then Some (best (candidates T m roots)) else None) → (b ≡ true) × (s ≡ best (candidates T m roots))
     go true h = (refl, cc)
     go false h = absurd (let z : ◌≡◌ {A = ℕ} 0 1 = cc in omega arith)
 
-told_done : (T : ℕ) (m roots : List ℕ) → none ≡ chosen_next T m roots → too_high T m roots ≡ false
+told_done : (T : ℕ) (m roots : List ℕ) → None ≡ chosen_next T m roots → too_high T m roots ≡ false
 unfolding chosen_next
 told_done T m roots e = go (too_high T m roots) e
   where
-    go : (b : Bool) → none ≡ (if b then some (best (candidates T m roots)) else none) → b ≡ false
+    go : (b : Bool) → None ≡ (if b then Some (best (candidates T m roots)) else None) → b ≡ false
     go true h = absurd (let z : ◌≡◌ {A = ℕ} 0 1 = cc in omega arith)
     go false h = refl
 
@@ -81,18 +78,18 @@ module _ (mc ac s : ℕ) (x : Lowering) where
         let q : is_base (tree x.circuit s) ≡ b = sym rep.to_main ∙ e in
         (main_list ∙ rw (q, ← rep.id), aux_list ∙ rw (q, ← rep.id))
 
-module _ (T mc ac : ℕ) (words : Lowering) (p : Progress) (ready : Ready T mc ac words p.main p.aux) (n : Next) (picked : Picked T words.circuit words.roots n) where
+module _ (T mc ac : ℕ) (words : Lowering) (p : Progress) (ready : Ready T mc ac words p.main p.aux) (n : Option (ℕ × Bool)) (picked : Picked T words.circuit words.roots n) where
   -- nothing is left to do
   stays_is : too_high T words.circuit words.roots ≡ false → (x : Lowering) → words.circuit ≡ x.circuit → words.roots ≡ x.roots → advanced T mc ac x ≡ x
   unfolding advanced
   stays_is low x e f = let low' : too_high T x.circuit x.roots ≡ false = rw (← e, ← f) low in rw low'
 
-  pub stays : n ≡ Done → Advanced T mc ac words words p (record { main = p.main; aux = p.aux; more = false })
+  pub stays : n ≡ None → Advanced T mc ac words words p None
   stays e =
       let low = told_done T words.circuit words.roots (rw e at picked.told) in
       record { more = sym low; on = λ lent x h. rw (stays_is low x h.circuit h.roots) h }
 
-  module _ (s : ℕ) (base : Bool) (is : n ≡ Node s base) where
+  module _ (s : ℕ) (base : Bool) (is : n ≡ Some (s, base)) where
     told_both : (too_high T words.circuit words.roots ≡ true) × (s ≡ chosen T mc ac words)
     told_both = told_node_lem T words.circuit words.roots s (rw is at picked.told)
 
@@ -129,5 +126,5 @@ module _ (T mc ac : ℕ) (words : Lowering) (p : Progress) (ready : Ready T mc a
               aux_count = rw (added.aux_count, e, auxs) an;
             }
 
-        pub goes_on : Advanced T mc ac words after p r
-        goes_on = record { more = added.more ∙ sym told_both.0; on = λ lent x h. rw (advanced_is x h.circuit h.roots) (on_either k.main refl lent x h) }
+        pub goes_on : Advanced T mc ac words after p (Some r)
+        goes_on = record { more = sym told_both.0; on = λ lent x h. rw (advanced_is x h.circuit h.roots) (on_either k.main refl lent x h) }

@@ -9,6 +9,9 @@ use native.Mathlib.Omega.{arith}
 use lib.ListN.{length}
 use lib.Dec.{ltb}
 use borrow.Author.Tests.{ltb-false}
+use Rattle.layout.specs.declared.refusal.Refusal.{Refusal}
+use Rattle.layout.specs.Refusals.{number_of}
+use Rattle.layout.proofs.Unique.{number_some}
 use Rattle.layout.specs.Outcomes.{refusal}
 use Rattle.layout.specs.Answers.{accepted, refused}
 use Rattle.layout.proofs.Refusals.{refusal_none, refusal_next, outcome_accepted, outcome_refused}
@@ -79,9 +82,12 @@ module _ (T mc ac : ℕ) (lent : Lowering) where
   some_number zero h e = absurd (h refl)
   some_number (suc k) h e = sym (outcome_refused (tests T mc ac lent) _ _ _ lent k e)
 
-  pub refused_first : (n : ℕ) → n ≡ first_refusal T m roots → n ≢ 0 → refused n (0, 0) lent ≡ lower_call T mc ac lent
-  refused_first zero e h = absurd (h refl)
-  refused_first (suc k) e h = some_number (suc k) h (refusal_front (tests_first T lent) _ k (sym first-is ∙ sym e))
+  first_number : (n : ℕ) → n ≡ first_refusal T m roots → n ≢ 0 → refused n (0, 0) lent ≡ lower_call T mc ac lent
+  first_number zero e h = absurd (h refl)
+  first_number (suc k) e h = some_number (suc k) h (refusal_front (tests_first T lent) _ k (sym first-is ∙ sym e))
+
+  pub refused_first : (r : Refusal) → number_of r ≡ first_refusal T m roots → refused (number_of r) (0, 0) lent ≡ lower_call T mc ac lent
+  refused_first r e = first_number (number_of r) e (λ z. number_some r (sym z))
 
   module _ (none : first_refusal T m roots ≡ 0) where
     -- no roots, or all within target
@@ -95,8 +101,8 @@ module _ (T mc ac : ℕ) (lent : Lowering) where
       then_decides : refusal (tests T mc ac lent) ≡ then_refusal T mc ac (length lent.main) (length lent.aux) m roots
       then_decides = tests_rest none ∙ rw high (sym rest-is)
 
-      pub refused_then : (n : ℕ) → n ≡ then_refusal T mc ac (length lent.main) (length lent.aux) m roots → n ≢ 0 → refused n (0, 0) lent ≡ lower_call T mc ac lent
-      refused_then n e h = some_number n h (then_decides ∙ sym e)
+      pub refused_then : (r : Refusal) → number_of r ≡ then_refusal T mc ac (length lent.main) (length lent.aux) m roots → refused (number_of r) (0, 0) lent ≡ lower_call T mc ac lent
+      refused_then r e = some_number (number_of r) (λ z. number_some r (sym z)) (then_decides ∙ sym e)
 
   pub begun : first_refusal T m roots ≡ 0 → too_high T m roots ≡ true → then_refusal T mc ac (length lent.main) (length lent.aux) m roots ≡ 0 → Begun T mc ac lent
   begun f h r = record { first = f; high = h; rest = r }

@@ -1,10 +1,9 @@
 -- After a substitution no degree is higher and no node occurs more often: DEGREE and PATHS, tested at the start, hold to the end. Assumes nothing.
-use Rattle.std.specs.Prelude.{if◌then◌else◌}
+use Rattle.std.specs.Prelude.{if◌then◌else◌, Some}
 use Prim.Native.Nat.{ℕ, zero, suc, ◌+◌, ◌-◌, ◌<◌, ◌≤◌}
 use mathlib.Core.Path.{◌≡◌, refl, sym, ◌∙◌, ap}
 use mathlib.Core.Logic.{◌≢◌, ◌⊎◌, inl, inr}
 use mathlib.Core.Bool.{Bool, true, false, ◌&&◌}
-use mathlib.Core.Option.{some}
 use mathlib.Core.List.{List, [], ◌∷◌, ◌++◌}
 use native.Mathlib.Nat.{add-suc, add-zero}
 use native.Mathlib.Omega.{arith}
@@ -35,7 +34,7 @@ use Rattle.lowering.proofs.OneMore.{State, OneMore, state_after}
 use Rattle.lower.proofs.Selects.{keep_more}
 
 -- the new input's walk is the input itself
-pub leaf_walk : (c : Look) (t : Tree) (n z : ℕ) (y : Position) → Tru c t n → c n ≡ some (leaf_e (input_leaf y)) → z ≢ n → count z (walk t) ≡ 0
+pub leaf_walk : (c : Look) (t : Tree) (n z : ℕ) (y : Position) → Tru c t n → c n ≡ Some (leaf_e (input_leaf y)) → z ≢ n → count z (walk t) ≡ 0
 unfolding walk count
 leaf_walk c (leaf j a) n z y (e, p) q h = rw (ne_eqb z j (λ k. h (k ∙ e)))
 leaf_walk c (branch j o a b) n z y (e, l, r, p, v, w) q h = absurd (let x : ◌≡◌ {A = ℕ} 0 1 = cc in omega arith)

@@ -12,4 +12,3 @@ pub mod Permits
 pub mod Advances
 pub mod Decides
 pub mod Turns
-pub mod Once

@@ -1,9 +1,9 @@
 -- What one substitution asks, call by call, where its circuits fit. Assumes nothing.
+use Rattle.std.specs.Prelude.{Some}
 use Prim.Native.Nat.{ℕ, suc, ◌≤◌, ◌<◌}
 use mathlib.Core.Path.{◌≡◌, sym, ◌∙◌, ap}
 use mathlib.Core.Logic.{◌≢◌}
 use mathlib.Core.Bool.{true, false}
-use mathlib.Core.Option.{some}
 use mathlib.Core.List.{List}
 use native.Mathlib.Omega.{arith}
 use lib.ListN.{length}
@@ -22,7 +22,7 @@ use Rattle.lowering.proofs.Proper.{Proper, circuit_of}
 use Rattle.lowering.proofs.Substitutes.{input_made, one, one_is, one_sound, one_used, one_length, one_proper, s_old, two, two_is, two_sound, two_used, two_length, two_proper, three, three_is, stepped}
 use Rattle.lower.proofs.Along.{same_limit, inside}
 
-module _ (m : List ℕ) (sound : Sound m) (s : ℕ) (u : Shape) (large : 3 ≤ deg u) (at-s : Unf (look m) u s) (y : Position) (fresh : (i : ℕ) → look m i ≢ some (leaf_e (input_leaf y)))
+module _ (m : List ℕ) (sound : Sound m) (s : ℕ) (u : Shape) (large : 3 ≤ deg u) (at-s : Unf (look m) u s) (y : Position) (fresh : (i : ℕ) → look m i ≢ Some (leaf_e (input_leaf y)))
     (kind : is_main y ≡ true → base_s u ≡ true) (valid : not_circuit m ≡ false) (proper : Proper m) (small : column y ≤ 65535) (current : is_next y ≡ false)
     (room : used (three m sound s u large at-s y fresh kind).circuit ≤ limit m) where
   abbrev O : List ℕ

@@ -1,4 +1,5 @@
 -- The redirect as the code does it: node by node, by what each node does at its place, and root by root. Assumes nothing.
+use Rattle.std.specs.Prelude.{None, Some, Option}
 use Prim.Native.Nat.{ℕ, zero, suc, ◌+◌, ◌<◌}
 use mathlib.Core.Path.{◌≡◌, refl, sym, ◌∙◌, ap}
 use mathlib.Core.Logic.{⊎_elim}
@@ -12,7 +13,6 @@ use borrow.Author.Tests.{eqb-true}
 use Rattle.layout.specs.declared.node.Node.{Node}
 use Rattle.layout.specs.declared.node.Op.{Op}
 use Rattle.layout.specs.declared.node.Op.TheVariants.{Add, Multiply}
-use Rattle.circuit.specs.declared.check.Step.TheVariants.{Stay, Two}
 use Rattle.layout.specs.Lists.{up_to, each}
 use Rattle.layout.specs.Words.{offset, word, decode, node_at, expression_at, op_kind}
 use Rattle.circuit.specs.Walk.{step_of}
@@ -23,11 +23,11 @@ use Rattle.lowering.specs.Lowering.{renamed, rename_operands}
 use Rattle.lowering.proofs.Redirects.{each_snoc}
 
 -- a place that stays is no operation
-stays : (k a b c : ℕ) → step_of (decode k a b c) ≡ Stay → (eqb k 3 || eqb k 4) ≡ false
+stays : (k a b c : ℕ) → step_of (decode k a b c) ≡ None → (eqb k 3 || eqb k 4) ≡ false
 unfolding decode
-stays k a b c h = is_false (eqb k 3 || eqb k 4) (λ t. ⊎_elim (λ e. let q = eqb-true k 3 e in let z : step_of (decode 3 a b c) ≡ Stay = rw q at h in absurd (never z)) (λ e. let q = eqb-true k 4 e in let z : step_of (decode 4 a b c) ≡ Stay = rw q at h in absurd (never z)) (either (eqb k 3) (eqb k 4) t))
+stays k a b c h = is_false (eqb k 3 || eqb k 4) (λ t. ⊎_elim (λ e. let q = eqb-true k 3 e in let z : step_of (decode 3 a b c) ≡ None = rw q at h in absurd (never z)) (λ e. let q = eqb-true k 4 e in let z : step_of (decode 4 a b c) ≡ None = rw q at h in absurd (never z)) (either (eqb k 3) (eqb k 4) t))
   where
-    never : Two a b ≡ Stay → ⊥
+    never : ◌≡◌ {A = Option (ℕ × ℕ)} (Some (a, b)) None → ⊥
     never z = let y : ◌≡◌ {A = ℕ} 0 1 = cc in omega arith
 
 kinds : (o : Op) → (eqb (op_kind o) 3 || eqb (op_kind o) 4) ≡ true
@@ -39,14 +39,14 @@ module _ (s n : ℕ) (m : List ℕ) (i : ℕ) (x : Node) (read : x ≡ node_at m
   unfolding rename_operands
   rename_loose h = let e : (node_at m i).registered ≡ false = sym (ap (λ (y : Node). y.registered) read) ∙ h in rw e
 
-  pub rename_stay : x.registered ≡ true → step_of (expression_at m i) ≡ Stay → m ≡ rename_operands s n m i
+  pub rename_stay : x.registered ≡ true → step_of (expression_at m i) ≡ None → m ≡ rename_operands s n m i
   unfolding rename_operands node_at
   rename_stay h p =
       let e : (eqb (word m i 4) 1) ≡ true = sym (ap (λ (y : Node). y.registered) read) ∙ h in
       let k = stays (word m i 0) (word m i 1) (word m i 2) (word m i 3) p in
       rw (e, k)
 
-  pub rename_two : x.registered ≡ true → (l r : ℕ) → step_of (expression_at m i) ≡ Two l r → set (set m (offset i + 1) (renamed s n l)) (offset i + 2) (renamed s n r) ≡ rename_operands s n m i
+  pub rename_two : x.registered ≡ true → (l r : ℕ) → step_of (expression_at m i) ≡ Some (l, r) → set (set m (offset i + 1) (renamed s n l)) (offset i + 2) (renamed s n r) ≡ rename_operands s n m i
   unfolding rename_operands node_at
   rename_two h l r p =
       let e : (eqb (word m i 4) 1) ≡ true = sym (ap (λ (y : Node). y.registered) read) ∙ h in

@@ -7,7 +7,7 @@ use mathlib.Core.Bool.{Bool, true, false}
 use mathlib.Core.List.{List, [], ◌∷◌, ◌++◌, map}
 use native.Mathlib.Numerals.{add-one}
 use native.Mathlib.Omega.{arith}
-use lib.ListN.{length, set, length-set, length-append}
+use lib.ListN.{length, set, length-append}
 use lib.Seq.{take-suc-set}
 use borrow.Author.Tests.{ltb-true, lt-ltb, le-ltb, eq-eqb}
 use Rattle.layout.specs.Lists.{up_to, keep, each}
@@ -35,11 +35,9 @@ append_nothing : (xs : List ℕ) → xs ++ [] ≡ xs
 append_nothing [] = refl
 append_nothing (x ∷ xs) = ap (λ (l : List ℕ). x ∷ l) (append_nothing xs)
 
--- the first i of n nodes are looked at, and `many` of them stand at the front of the list
-pub record Listing (degrees counts : List ℕ) (d n : ℕ) (list₀ list : List ℕ) (many i : ℕ) : Type 0 where
-  pub within : i ≤ n
+-- the first i nodes are looked at, and `many` of them stand at the front of the list
+pub record Listing (degrees counts : List ℕ) (d : ℕ) (list : List ℕ) (many i : ℕ) : Type 0 where
   pub few : many ≤ i
-  pub same : length list ≡ length list₀
   pub listed : Listed (high_in degrees counts d i) list many
 
 module _ (degrees counts : List ℕ) (d : ℕ) where
@@ -47,21 +45,18 @@ module _ (degrees counts : List ℕ) (d : ℕ) where
   unfolding high_in
   more i = rw add-one (keep_more (is_high_in degrees counts d) i)
 
-  pub listing_start : (n : ℕ) (list : List ℕ) → Listing degrees counts d n list list 0 0
+  pub listing_start : (list : List ℕ) → Listing degrees counts d list 0 0
   unfolding high_in keep up_to
-  listing_start n list = record { within = omega arith; few = omega arith; same = refl; listed = record { many = refl; front = refl } }
+  listing_start list = record { few = omega arith; listed = record { many = refl; front = refl } }
 
-  module _ (n i many : ℕ) (list₀ list : List ℕ) (l : Listing degrees counts d n list₀ list many i) (here : i < n) where
-    pub listing_yes : (many' : ℕ) (list' : List ℕ) → n ≤ length list₀ → is_high_in degrees counts d i ≡ true → list' ≡ set list many i → many' ≡ many + 1 → Listing degrees counts d n list₀ list' many' (i + 1)
+  module _ (i many : ℕ) (list : List ℕ) (l : Listing degrees counts d list many i) where
+    pub listing_yes : (many' : ℕ) (list' : List ℕ) → i < length list → is_high_in degrees counts d i ≡ true → list' ≡ set list many i → many' ≡ many + 1 → Listing degrees counts d list' many' (i + 1)
     listing_yes many' list' room h e q =
         let f = l.few in
-        let k = l.same in
         let x : high_in degrees counts d (i + 1) ≡ high_in degrees counts d i ++ (i ∷ []) = more i ∙ rw h in
         rw (e, q)
         record {
-          within = omega arith;
           few = omega arith;
-          same = length-set list many i ∙ k;
           listed =
               record {
                 many = omega (arith, ap length x, length-append (high_in degrees counts d i) (i ∷ []), l.listed.many);
@@ -69,11 +64,11 @@ module _ (degrees counts : List ℕ) (d : ℕ) where
               };
         }
 
-    pub listing_no : (many' : ℕ) (list' : List ℕ) → is_high_in degrees counts d i ≡ false → list' ≡ list → many' ≡ many → Listing degrees counts d n list₀ list' many' (i + 1)
+    pub listing_no : (many' : ℕ) (list' : List ℕ) → is_high_in degrees counts d i ≡ false → list' ≡ list → many' ≡ many → Listing degrees counts d list' many' (i + 1)
     listing_no many' list' h e q =
         let f = l.few in
         let x : high_in degrees counts d (i + 1) ≡ high_in degrees counts d i = more i ∙ rw h (append_nothing (high_in degrees counts d i)) in
-        rw (e, q) record { within = omega arith; few = omega arith; same = l.same; listed = rw x l.listed }
+        rw (e, q) record { few = omega arith; listed = rw x l.listed }
 
 -- what each candidate is better than
 abbrev pub nothing : Candidate

@@ -1,6 +1,7 @@
 -- One substitution as the code does it, call by call, is the definition's. Assumes nothing.
+use Rattle.std.specs.Prelude.{None, Option, Some, IsSome}
 use Prim.Native.Nat.{ℕ, ◌<◌, ◌≤◌}
-use mathlib.Core.Path.{◌≡◌, ◌∙◌}
+use mathlib.Core.Path.{◌≡◌, ◌∙◌, refl}
 use mathlib.Core.Bool.{Bool, false}
 use mathlib.Core.List.{List, map}
 use Rattle.layout.specs.declared.node.Expression.{Expression}
@@ -8,8 +9,6 @@ use Rattle.layout.specs.Words.{used, limit, made}
 use Rattle.layout.specs.Tree.{tree}
 use Rattle.layout.proofs.Lists.{clash}
 use Rattle.layout.proofs.Valid.{valid_room}
-use Rattle.build.specs.declared.steps.Made.{Made}
-use Rattle.build.specs.declared.steps.Made.TheVariants.{At, Full}
 use Rattle.building.specs.Building.{Built, find_or_make, subtracted, full}
 use Rattle.build.specs.Inner.{Step}
 use Rattle.reading.specs.Readings.{is_base}
@@ -18,7 +17,7 @@ use Rattle.lowering.specs.Lowering.{renamed, redirected}
 use Rattle.lower.specs.Substituting.{input_at, Fresh, Differing, Gives, new_input, turned, difference, Substitutable, Replaced}
 
 -- a step that found room
-pub gives_at : {rest : Type 0} {m m' num t least : List ℕ} {b : Built} {r : Made} (i : ℕ) → Step rest m b r m' num t least → r ≡ At i → Gives b m' i
+pub gives_at : {rest : Type 0} {m m' num t least : List ℕ} {b : Built} {r : Option ℕ} (i : ℕ) → Step rest m b r m' num t least → r ≡ Some i → Gives b m' i
 gives_at i s e = let k = rw e at s.told in record { circuit = k.after; id = k.id }
 
 -- a node that was made, where no other is it
@@ -26,8 +25,9 @@ pub gives_new : {m m' : List ℕ} {e : Expression} → Fresh m e → m' ≡ made
 gives_new f q = record { circuit = q ∙ rw f.new; id = rw f.new }
 
 -- there is room
-pub never_full : {A rest : Type 0} {m m' num t least : List ℕ} {b : Built} {r : Made} → full m b ≡ false → Step rest m b r m' num t least → r ≡ Full → A
-never_full {m = m} {b = b} room s e = let k = rw e at s.told in clash (full m b) k.over room
+pub always_made : {rest : Type 0} {m m' num t least : List ℕ} {b : Built} (r : Option ℕ) → full m b ≡ false → Step rest m b r m' num t least → IsSome r
+always_made (Some i) room s = refl
+always_made {m = m} {b = b} None room s = clash (full m b) s.told.over room
 
 module _ (m : List ℕ) (s a b : ℕ) (p : Substitutable m s a b) (main : Bool) (pm : main ≡ is_base (tree m s)) (e : Expression) (pe : e ≡ input_at main a b) where
   pub input_fresh : Fresh m e

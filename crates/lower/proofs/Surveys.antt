@@ -1,14 +1,14 @@
 -- The tables of a lowering: they are what the choice asks for. Assumes nothing.
-use Rattle.std.specs.Prelude.{if◌then◌else◌}
+use Rattle.std.specs.Prelude.{if◌then◌else◌, None, Some}
 use Prim.Native.Nat.{ℕ, suc, ◌<◌, ◌≤◌}
 use mathlib.Core.Path.{◌≡◌, sym, ◌∙◌}
 use mathlib.Core.Bool.{Bool, true, false}
-use mathlib.Core.Option.{none, some}
 use mathlib.Core.List.{List, [], ◌∷◌}
 use native.Mathlib.Omega.{arith}
 use lib.ListN.{length, take}
 use lib.Dec.{leb}
 use borrow.Author.Tests.{lt-leb}
+use Rattle.std.proofs.lemmas.Option.{some_pair_parts}
 use Rattle.layout.specs.Lists.{up_to, any, keep}
 use Rattle.layout.specs.Words.{used}
 use Rattle.layout.specs.Tree.{tree}
@@ -24,7 +24,6 @@ use Rattle.read.specs.Degrees.{degree_to}
 use Rattle.lowering.specs.Lowering.{too_high}
 use Rattle.lower.specs.Tables.{Degrees, above_in, is_high_in, high_in, Listed, best_in}
 use Rattle.lower.specs.Survey.{Surveyed, Occurring, Choosable, chosen_next, Picked}
-use Rattle.lower.specs.declared.next.Next.TheVariants.{Node, Done}
 use Rattle.lowering.proofs.ListLaws.{in_keep, in_up_to}
 use Rattle.lower.proofs.Readings.{high_is, best-is, too_high_is, small_target}
 
@@ -66,11 +65,11 @@ module _ (target : ℕ) (m roots order rank degrees counts : List ℕ) (c : Choo
   told_high : b ≡ too_high target m roots
   told_high = told ∙ too_high_is m degrees s.all_degrees roots c.valid c.ids c.degree target
 
-  next-done : b ≡ false → none ≡ chosen_next target m roots
+  next-done : b ≡ false → None ≡ chosen_next target m roots
   unfolding chosen_next
   next-done h = rw (sym told_high ∙ h)
 
-  next_node : b ≡ true → (found : List ℕ) (r : ℕ) → PathCounts m (high_in degrees counts target (used m)) found → r ≡ best_in degrees found target (used m) → some r ≡ chosen_next target m roots
+  next_node : b ≡ true → (found : List ℕ) (r : ℕ) → PathCounts m (high_in degrees counts target (used m)) found → r ≡ best_in degrees found target (used m) → Some r ≡ chosen_next target m roots
   unfolding chosen_next
   next_node h found r p e =
       let high : too_high target m roots ≡ true = sym told_high ∙ h in
@@ -78,18 +77,17 @@ module _ (target : ℕ) (m roots order rank degrees counts : List ℕ) (c : Choo
       let q = rw (high_is m degrees s.all_degrees roots counts s.all_counts target small) at p in
       rw (high, e, best-is m degrees s.all_degrees target roots found small q c.few)
 
-  pub picked_done : b ≡ false → Picked target m roots Done
+  pub picked_done : b ≡ false → Picked target m roots None
   picked_done h = record { told = next-done h; base = λ s c e l. absurd (let z : ◌≡◌ {A = ℕ} 0 1 = cc in omega arith) }
 
   pub ranked : Ranked m rank
   ranked = ranked_of m order rank c.valid s.sorted
 
-  pub picked_node : b ≡ true → (found : List ℕ) (r : ℕ) → PathCounts m (high_in degrees counts target (used m)) found → r ≡ best_in degrees found target (used m) → (main : Bool) → (r < used m → main ≡ is_base (tree m r)) → Picked target m roots (Node r main)
+  pub picked_node : b ≡ true → (found : List ℕ) (r : ℕ) → PathCounts m (high_in degrees counts target (used m)) found → r ≡ best_in degrees found target (used m) → (main : Bool) → (r < used m → main ≡ is_base (tree m r)) → Picked target m roots (Some (r, main))
   picked_node h found r p e main f =
       record {
         told = next_node h found r p e;
         base = λ q d w l.
-            let y : r ≡ q = cc in
-            let z : main ≡ d = cc in
+            let (y, z) = some_pair_parts _ _ _ _ w in
             rw (← y, ← z) (f (rw y l));
       }

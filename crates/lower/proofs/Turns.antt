@@ -1,17 +1,16 @@
 -- The loop of a lowering: what holds at each turn, and that it ends as the definition does. Assumes nothing.
-use Rattle.std.specs.Prelude.{if◌then◌else◌}
+use Rattle.std.specs.Prelude.{if◌then◌else◌, Some, None}
 use Prim.Native.Nat.{ℕ, zero, suc, ◌+◌, ◌-◌, ◌≤◌, ◌<◌}
 use mathlib.Core.Path.{◌≡◌, refl, sym, ◌∙◌, ap}
 use mathlib.Core.Logic.{◌≢◌}
 use mathlib.Core.Bool.{Bool, true, false}
-use mathlib.Core.Option.{some}
 use mathlib.Core.List.{List}
 use native.Mathlib.Omega.{arith}
 use lib.ListN.{length, drop, length-append, length-drop}
 use Rattle.layout.specs.declared.node.Position.{Position}
 use Rattle.layout.specs.declared.node.Position.TheVariants.{Main, Aux}
 use Rattle.layout.specs.declared.node.Expression.TheVariants.{Input}
-use Rattle.layout.specs.Lists.{written, bit}
+use Rattle.layout.specs.Lists.{written}
 use Rattle.layout.specs.Words.{used, limit, column, is_main, is_next}
 use Rattle.layout.specs.Tree.{input_leaf, tree}
 use Rattle.layout.specs.Answers.{accepted}
@@ -36,7 +35,7 @@ use Rattle.lower.proofs.Decides.{begun_bounded, begun_going, begun_room}
 module _ (T mc ac : ℕ) (m₀ roots₀ : List ℕ) (whole : Bounded T mc ac m₀ roots₀) (x : Lowering) (k : ℕ) (g : Going T mc ac m₀ roots₀ x (suc k)) (high : too_high T x.circuit x.roots ≡ true) where
   -- at the column that its kind asks for
   at_column : (s : ℕ) (u : Shape) → Choice T (look x.circuit) x.roots s u → (b : Bool) → is_base (tree x.circuit s) ≡ b → (y : Position) → (if b then Main (mc + length x.main) else Aux (ac + length x.aux)) ≡ y
-      → ((i : ℕ) → look x.circuit i ≢ some (leaf_e (input_leaf y))) → (is_main y ≡ true → base_s u ≡ true) → column y ≤ 65535 → is_next y ≡ false → used (substituted mc ac x s).circuit ≤ limit m₀
+      → ((i : ℕ) → look x.circuit i ≢ Some (leaf_e (input_leaf y))) → (is_main y ≡ true → base_s u ≡ true) → column y ≤ 65535 → is_next y ≡ false → used (substituted mc ac x s).circuit ≤ limit m₀
       → Substitutable x.circuit s (mc + length x.main) (ac + length x.aux)
   at_column s u ch b e y h fresh kind small current fits =
       let q = substituted_is x.circuit g.state.sound s u ch.low ch.tree y fresh kind mc ac b x refl e h in
@@ -56,17 +55,16 @@ module _ (T mc ac : ℕ) (m₀ roots₀ : List ℕ) (whole : Bounded T mc ac m�
           at_column s u ch false e (Aux (ac + length x.aux)) refl (λ i h. omega (arith, g.state.columns i (Aux (ac + length x.aux)) h))
           (λ h. absurd (let z : ◌≡◌ {A = ℕ} 0 1 = cc in omega arith)) (omega (arith, g.steps, whole.aux_columns)) refl fits
 
--- the lent words at a turn: those of a lowering on its way; once there is no more, no root's degree exceeds the target
+-- the lent words at a turn: those of a lowering on its way
 pub record Turning (T mc ac : ℕ) (lent words : Lowering) (p : Progress) : Type 0 where
   pub x : Lowering
   pub k : ℕ
   pub holds : Holds lent x words p.main p.aux
   pub going : Going T mc ac lent.circuit lent.roots x k
-  pub ended : p.more ≡ false → too_high T x.circuit x.roots ≡ false
 
--- what falls: the substitutions left, and one for the last turn
+-- what falls: the substitutions left
 abbrev pub left : Lowering → Progress → ℕ
-left lent p = M lent.circuit lent.roots - (p.main + p.aux) + bit p.more
+left lent p = M lent.circuit lent.roots - (p.main + p.aux)
 
 -- there is a place after the answer
 written_free : (xs l : List ℕ) → length xs < length l → length xs < length (written xs l)
@@ -77,14 +75,13 @@ module _ (T mc ac : ℕ) (lent : Lowering) (begun : Begun T mc ac lent) where
   whole : Bounded T mc ac lent.circuit lent.roots
   whole = begun_bounded T mc ac lent begun
 
-  pub turning_start : Turning T mc ac lent lent (record { main = 0; aux = 0; more = true })
+  pub turning_start : Turning T mc ac lent lent (record { main = 0; aux = 0 })
   turning_start =
       record {
         x = start lent.circuit lent.roots;
         k = M lent.circuit lent.roots;
         holds = record { circuit = refl; roots = refl; main = sym (written_none lent.main); aux = sym (written_none lent.aux); main_count = refl; aux_count = refl };
         going = begun_going T mc ac lent begun;
-        ended = λ z. clash true refl z;
       }
 
   ready_of : (words : Lowering) (a b : ℕ) (x : Lowering) (k : ℕ) → Holds lent x words a b → Going T mc ac lent.circuit lent.roots x k → Ready T mc ac words a b
@@ -105,24 +102,29 @@ module _ (T mc ac : ℕ) (lent : Lowering) (begun : Begun T mc ac lent) where
     turning_ready = ready_of words p.main p.aux t.x t.k t.holds t.going
 
     -- one turn more, and less to do
-    pub turning_next : p.more ≡ true → (after : Lowering) (r : Progress) → Advanced T mc ac words after p r → Turning T mc ac lent after r × (left lent r < left lent p)
+    pub turning_next : (after : Lowering) (n : Progress) → Advanced T mc ac words after p (Some n) → Turning T mc ac lent after n × (left lent n < left lent p)
     unfolding advanced
-    turning_next first after r step = from t.x t.k t.holds t.going (step.on lent t.x t.holds)
+    turning_next after n step = from t.x t.k t.holds t.going (step.on lent t.x t.holds)
       where
-        from : (x : Lowering) (k : ℕ) → Holds lent x words p.main p.aux → Going T mc ac lent.circuit lent.roots x k → Holds lent (if too_high T x.circuit x.roots then substituted mc ac x (chosen T mc ac x) else x) after r.main r.aux → Turning T mc ac lent after r × (left lent r < left lent p)
+        from : (x : Lowering) (k : ℕ) → Holds lent x words p.main p.aux → Going T mc ac lent.circuit lent.roots x k → Holds lent (if too_high T x.circuit x.roots then substituted mc ac x (chosen T mc ac x) else x) after n.main n.aux → Turning T mc ac lent after n × (left lent n < left lent p)
         from x zero h g h₁ = absurd (going_some T mc ac lent.circuit lent.roots whole x g)
         from x (suc k) h g h₁ = go (too_high T x.circuit x.roots) refl h₁ (step.more ∙ rw (h.circuit, h.roots))
           where
-            go : (b : Bool) → too_high T x.circuit x.roots ≡ b → Holds lent (if b then substituted mc ac x (chosen T mc ac x) else x) after r.main r.aux → r.more ≡ b → Turning T mc ac lent after r × (left lent r < left lent p)
+            go : (b : Bool) → too_high T x.circuit x.roots ≡ b → Holds lent (if b then substituted mc ac x (chosen T mc ac x) else x) after n.main n.aux → true ≡ b → Turning T mc ac lent after n × (left lent n < left lent p)
             go true high h' e =
                 let g' = going_next T mc ac lent.circuit lent.roots whole x k g high in
-                (record { x = substituted mc ac x (chosen T mc ac x); k = k; holds = h'; going = g'; ended = λ z. clash r.more e z }, rw (e, first) (omega (arith, g.steps, g'.steps, h.main_count, h.aux_count, h'.main_count, h'.aux_count)))
-            go false low h' e = (record { x = x; k = suc k; holds = h'; going = g; ended = λ z. low }, rw (e, first) (omega (arith, h.main_count, h.aux_count, h'.main_count, h'.aux_count)))
+                (record { x = substituted mc ac x (chosen T mc ac x); k = k; holds = h'; going = g' }, omega (arith, g.steps, g'.steps, h.main_count, h.aux_count, h'.main_count, h'.aux_count))
+            go false low h' e = clash true refl e
 
-    -- at the end
-    pub turning_end : p.more ≡ false → accepted (p.main, p.aux) words ≡ finished T mc ac lent
+    quiet : (x : Lowering) → too_high T x.circuit x.roots ≡ false → advanced T mc ac x ≡ x
+    unfolding advanced
+    quiet x low = rw low
+
+    -- at the end, where no root's degree exceeds the target
+    pub turning_end : (after : Lowering) → Advanced T mc ac words after p None → accepted (p.main, p.aux) after ≡ finished T mc ac lent
     unfolding finished
-    turning_end e =
-        let h = t.holds in
-        let q = going_done T mc ac lent.circuit lent.roots whole t.x t.k t.going (t.ended e) in
+    turning_end after step =
+        let e : false ≡ too_high T t.x.circuit t.x.roots = step.more ∙ rw (t.holds.circuit, t.holds.roots) in
+        let h : Holds lent t.x after p.main p.aux = rw (quiet t.x (sym e)) at (step.on lent t.x t.holds) in
+        let q = going_done T mc ac lent.circuit lent.roots whole t.x t.k t.going (sym e) in
         rw (← q) (λ i. record { number = 0; values = (h.main_count i, h.aux_count i); lent = record { circuit = h.circuit i; roots = h.roots i; main = h.main i; aux = h.aux i } })

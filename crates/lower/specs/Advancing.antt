@@ -1,5 +1,5 @@
 -- The loop of a lowering: what one substitution more asks of the lent words, and what they are after it. Assumes nothing.
-use Rattle.std.specs.Prelude.{ℕ, ◌+◌, ◌<◌, ◌≤◌, ◌≡◌, true, List, length, set, if◌then◌else◌}
+use Rattle.std.specs.Prelude.{ℕ, ◌+◌, ◌<◌, ◌≤◌, ◌≡◌, true, List, length, set, if◌then◌else◌, Option, is_some, unwrap_or}
 use Rattle.layout.specs.Lists.{written}
 use Rattle.layout.specs.Outcomes.{Outcome}
 use Rattle.layout.specs.Answers.{accepted}
@@ -25,7 +25,6 @@ pub record Added (c : Constraint) (p : Progress) (main aux main' aux' : List ℕ
   pub aux_list : aux' ≡ (if c.main then aux else set aux p.aux c.id)
   pub main_count : r.main ≡ (if c.main then p.main + 1 else p.main)
   pub aux_count : r.aux ≡ (if c.main then p.aux else p.aux + 1)
-  pub more : r.more ≡ true
 
 module _ (target main_count aux_count : ℕ) where
   -- the node chosen next
@@ -46,9 +45,9 @@ module _ (target main_count aux_count : ℕ) where
     pub aux_column : aux_count + auxs ≤ 65536
 
   -- of whatever lowering the words are, they are the one after it
-  pub record Advanced (words after : Lowering) (p r : Progress) : Type 0 where
-    pub more : r.more ≡ too_high target words.circuit words.roots
-    pub on : (lent x : Lowering) → Holds lent x words p.main p.aux → Holds lent (advanced x) after r.main r.aux
+  pub record Advanced (words after : Lowering) (p : Progress) (r : Option Progress) : Type 0 where
+    pub more : is_some r ≡ too_high target words.circuit words.roots
+    pub on : (lent x : Lowering) → Holds lent x words p.main p.aux → Holds lent (advanced x) after (unwrap_or r p).main (unwrap_or r p).aux
 
   -- all tests are passed, and some root's degree exceeds the target
   pub record Begun (lent : Lowering) : Type 0 where

@@ -1,6 +1,5 @@
 -- The tables of a lowering, filled anew for each choice: what filling them asks and gives. Assumes nothing.
-use Rattle.std.specs.Prelude.{ℕ, ◌<◌, ◌≤◌, ◌≡◌, Bool, false, List, length, if◌then◌else◌}
-use Rattle.std.proofs.Math.Option.{Option, none, some}
+use Rattle.std.specs.Prelude.{ℕ, ◌<◌, ◌≤◌, ◌≡◌, Bool, false, List, length, if◌then◌else◌, Option, None, Some}
 use Rattle.layout.specs.Words.{used}
 use Rattle.layout.specs.Tree.{tree}
 use Rattle.layout.specs.NotCircuit.{not_circuit, bad_id}
@@ -8,8 +7,6 @@ use Rattle.circuit.specs.Rank.{Sorted}
 use Rattle.paths.specs.Counting.{PathCounts}
 use Rattle.reading.specs.Readings.{is_base}
 use Rattle.reading.specs.Refusals.{over_degree}
-use Rattle.lower.specs.declared.next.Next.{Next}
-use Rattle.lower.specs.declared.next.Next.TheVariants.{Node, Done}
 use Rattle.lowering.specs.Lowering.{too_high, candidates, best}
 use Rattle.lowering.specs.Refusals.{over_occurrences}
 use Rattle.lower.specs.Tables.{Degrees}
@@ -46,13 +43,13 @@ pub record Choosable (target : ℕ) (m roots : List ℕ) : Type 0 where
 
 -- the node to substitute next, while some root's degree exceeds the target
 unfoldable pub chosen_next : ℕ → List ℕ → List ℕ → Option ℕ
-chosen_next target m roots = let s = best (candidates target m roots) in if too_high target m roots then some s else none
+chosen_next target m roots = let s = best (candidates target m roots) in if too_high target m roots then Some s else None
 
-abbrev pub next_of : Next → Option ℕ
-next_of (Node s b) = some s
-next_of Done = none
+abbrev pub next_of : Option (ℕ × Bool) → Option ℕ
+next_of (Some (s, b)) = Some s
+next_of None = None
 
 -- the choice, with the base test of a node that there is
-pub record Picked (target : ℕ) (m roots : List ℕ) (r : Next) : Type 0 where
+pub record Picked (target : ℕ) (m roots : List ℕ) (r : Option (ℕ × Bool)) : Type 0 where
   pub told : next_of r ≡ chosen_next target m roots
-  pub base : (s : ℕ) (b : Bool) → r ≡ Node s b → s < used m → b ≡ is_base (tree m s)
+  pub base : (s : ℕ) (b : Bool) → r ≡ Some (s, b) → s < used m → b ≡ is_base (tree m s)

@@ -1,21 +1,21 @@
 // The public call: document 01, "Lowering". It asks nothing of the words that are lent.
 ghost use Rattle.std.specs.Prelude.{◌≡◌, ◌<◌, length};
+ghost use Rattle.layout.specs.Answers.{accepted};
 ghost use Rattle.lowering.specs.Lowering.{Lowering};
 ghost use Rattle.lowering.specs.Calls.{lower_call};
 ghost use Rattle.lower.specs.Told.{told_lowering};
 ghost use Rattle.lower.specs.Advancing.{Added, Ready, Advanced, Begun, finished};
 
-use crate::next::{Next, next_choice};
+use crate::next::next_choice;
 use crate::refuse::{exceeds, first_refusal, then_refusal};
 use crate::substitute::{Constraint, substitute};
-use lowering::Lowered;
+use layout::refusal::Refusal;
 
-// How many constraints each list has so far, and whether there may be more.
+// How many constraints each list has so far.
 #[derive(Clone, Copy)]
 pub struct Progress {
     pub main: u64,
     pub aux: u64,
-    pub more: bool,
 }
 
 // A constraint goes to the first free place of its list.
@@ -29,7 +29,6 @@ fn add_constraint(c: Constraint, main: &mut [u64], aux: &mut [u64], progress: Pr
         return Progress {
             main: progress.main + 1,
             aux: progress.aux,
-            more: true,
         };
     }
     let place = progress.aux as usize;
@@ -37,11 +36,10 @@ fn add_constraint(c: Constraint, main: &mut [u64], aux: &mut [u64], progress: Pr
     Progress {
         main: progress.main,
         aux: progress.aux + 1,
-        more: true,
     }
 }
 
-// One substitution, where some root's degree exceeds the target.
+// One substitution, where some root's degree exceeds the target; else there is none, and nothing changes.
 fn one_more(
     m: &mut [u64],
     roots: &mut [u64],
@@ -51,24 +49,15 @@ fn one_more(
     main: &mut [u64],
     aux: &mut [u64],
     progress: Progress,
-) -> Progress
+) -> Option<Progress>
     requires { Ready target main_count aux_count (record { circuit = m.old; roots = roots.old; main = main.old; aux = aux.old }) progress.main progress.aux }
     ensures { Advanced target main_count aux_count (record { circuit = m.old; roots = roots.old; main = main.old; aux = aux.old }) (record { circuit = m.new; roots = roots.new; main = main.new; aux = aux.new }) progress result }
 {
-    let next = next_choice(m, roots, target);
-    match next {
-        Next::Done => Progress {
-            main: progress.main,
-            aux: progress.aux,
-            more: false,
-        },
-        Next::Node(s, base) => {
-            let main_column = main_count + progress.main;
-            let aux_column = aux_count + progress.aux;
-            let c = substitute(m, roots, s, base, main_column, aux_column);
-            add_constraint(c, main, aux, progress)
-        }
-    }
+    let (s, base) = next_choice(m, roots, target)?;
+    let main_column = main_count + progress.main;
+    let aux_column = aux_count + progress.aux;
+    let c = substitute(m, roots, s, base, main_column, aux_column);
+    Some(add_constraint(c, main, aux, progress))
 }
 
 // While some root's degree exceeds the target.
@@ -80,19 +69,15 @@ fn lower_all(
     aux_count: u64,
     main: &mut [u64],
     aux: &mut [u64],
-) -> Lowered
+) -> (u64, u64)
     requires { Begun target main_count aux_count (record { circuit = m.old; roots = roots.old; main = main.old; aux = aux.old }) }
-    ensures { told_lowering result (record { circuit = m.new; roots = roots.new; main = main.new; aux = aux.new }) ≡ finished target main_count aux_count (record { circuit = m.old; roots = roots.old; main = main.old; aux = aux.old }) }
+    ensures { accepted result (record { circuit = m.new; roots = roots.new; main = main.new; aux = aux.new }) ≡ finished target main_count aux_count (record { circuit = m.old; roots = roots.old; main = main.old; aux = aux.old }) }
 {
-    let mut progress = Progress {
-        main: 0,
-        aux: 0,
-        more: true,
-    };
-    while progress.more {
-        progress = one_more(m, roots, target, main_count, aux_count, main, aux, progress);
+    let mut progress = Progress { main: 0, aux: 0 };
+    while let Some(next) = one_more(m, roots, target, main_count, aux_count, main, aux, progress) {
+        progress = next;
     }
-    Lowered::Counts(progress.main, progress.aux)
+    (progress.main, progress.aux)
 }
 
 // Lowers the degree of the roots to the target. The new columns begin at the two counts; each list gets the ids of its new constraints.
@@ -104,17 +89,14 @@ pub fn lower(
     aux_count: u64,
     main: &mut [u64],
     aux: &mut [u64],
-) -> Lowered
+) -> Result<(u64, u64), Refusal>
     ensures { told_lowering result (record { circuit = m.new; roots = roots.new; main = main.new; aux = aux.new }) ≡ lower_call target main_count aux_count (record { circuit = m.old; roots = roots.old; main = main.old; aux = aux.old }) }
 {
-    let first = first_refusal(m, roots, target);
-    if first != 0 {
-        return Lowered::Refused(first);
-    }
+    first_refusal(m, roots, target)?;
     if !exceeds(m, roots, target) {
-        return Lowered::Counts(0, 0);
+        return Ok((0, 0));
     }
-    let then = then_refusal(
+    then_refusal(
         m,
         roots,
         target,
@@ -122,9 +104,6 @@ pub fn lower(
         aux_count,
         main.len() as u64,
         aux.len() as u64,
-    );
-    if then != 0 {
-        return Lowered::Refused(then);
-    }
-    lower_all(m, roots, target, main_count, aux_count, main, aux)
+    )?;
+    Ok(lower_all(m, roots, target, main_count, aux_count, main, aux))
 }

@@ -1,8 +1,9 @@
 // The choice: from tables with an entry for each node, the high nodes, and the candidate with most occurrences, then highest degree, then least id.
 ghost use Rattle.std.specs.Prelude.{◌≡◌, ◌≤◌, length};
-ghost use Rattle.circuit.specs.Rank.{at};
 ghost use Rattle.lowering.specs.Lowering.{better};
 ghost use Rattle.lower.specs.Tables.{above_in, is_high_in, high_in, Listed, is_candidate_in, best_in, candidate_of, improved};
+
+use circuit::place::entry;
 
 // A candidate: its degree is one higher, as in the table.
 #[derive(Clone, Copy)]
@@ -12,36 +13,19 @@ pub struct Choice {
     pub occurrences: u64,
 }
 
-// The entry of node i, 0 beyond the end.
-pub(crate) fn entry(table: &[u64], i: u64) -> u64
-    ensures { result ≡ at table.now i }
-{
-    let k = i as usize;
-    if k < table.len() {
-        return table[k];
-    }
-    0
-}
-
 // Whether node i has a degree above d. The table's degrees are one higher, and d may be the greatest word.
 pub(crate) fn is_above(degrees: &[u64], d: u64, i: u64) -> bool
     ensures { result ≡ above_in degrees.now d i }
 {
     let higher = entry(degrees, i);
-    if higher == 0 {
-        return false;
-    }
-    d < higher - 1
+    higher != 0 && d < higher - 1
 }
 
 // Whether it lies below the roots, too.
 fn is_high(degrees: &[u64], counts: &[u64], d: u64, i: u64) -> bool
     ensures { result ≡ is_high_in degrees.now counts.now d i }
 {
-    if entry(counts, i) == 0 {
-        return false;
-    }
-    is_above(degrees, d, i)
+    entry(counts, i) != 0 && is_above(degrees, d, i)
 }
 
 // Lists the ids of the nodes below the roots with a degree above d, by rising ids; how many there are.
@@ -50,14 +34,11 @@ pub(crate) fn high_nodes(degrees: &[u64], counts: &[u64], d: u64, n: u64, high: 
     ensures { Listed (high_in degrees.now counts.now d n) high.new result }
 {
     let mut many: u64 = 0;
-    let mut i: u64 = 0;
-    while i < n {
+    for i in 0..n {
         if is_high(degrees, counts, d, i) {
-            let place = many as usize;
-            high[place] = i;
+            high[many as usize] = i;
             many += 1;
         }
-        i += 1;
     }
     many
 }
@@ -66,10 +47,7 @@ pub(crate) fn high_nodes(degrees: &[u64], counts: &[u64], d: u64, n: u64, high: 
 fn is_candidate(degrees: &[u64], target: u64, i: u64) -> bool
     ensures { result ≡ is_candidate_in degrees.now target i }
 {
-    if !is_above(degrees, 1, i) {
-        return false;
-    }
-    !is_above(degrees, target, i)
+    is_above(degrees, 1, i) && !is_above(degrees, target, i)
 }
 
 // Of two, a has the lesser id.
@@ -112,10 +90,8 @@ pub(crate) fn best_candidate(degrees: &[u64], occurrences: &[u64], target: u64, 
         degree: 0,
         occurrences: 0,
     };
-    let mut i: u64 = 0;
-    while i < n {
+    for i in 0..n {
         best = improve(degrees, occurrences, target, best, i);
-        i += 1;
     }
     best.id
 }

@@ -15,13 +15,6 @@ use paths::counting::count_paths;
 use read::base_test;
 use read::degree::degrees_along;
 
-// The node to substitute next, and its base test; or that no root's degree exceeds the target.
-#[derive(Clone, Copy)]
-pub enum Next {
-    Node(u64, bool),
-    Done,
-}
-
 // The order of the nodes, their degrees, and the paths from the roots to each.
 pub(crate) fn survey(
     m: &[u64],
@@ -62,14 +55,11 @@ fn is_base(m: &[u64], rank: &[u64], s: u64) -> bool
     requires { Ranked m.now rank.now }
     ensures { s < used m.now → result ≡ is_base (tree m.now s) }
 {
-    if m[1] <= s {
-        return false;
-    }
-    base_test::is_base(m, rank, s)
+    s < m[1] && base_test::is_base(m, rank, s)
 }
 
-// Chooses among the candidates, where some root's degree exceeds the target.
-pub(crate) fn next_choice(m: &[u64], roots: &[u64], target: u64) -> Next
+// The node to substitute next, chosen among the candidates, and its base test; none where no root's degree exceeds the target.
+pub(crate) fn next_choice(m: &[u64], roots: &[u64], target: u64) -> Option<(u64, bool)>
     requires { Choosable target m.now roots.now }
     ensures { Picked target m.now roots.now result }
 {
@@ -79,7 +69,7 @@ pub(crate) fn next_choice(m: &[u64], roots: &[u64], target: u64) -> Next
     let mut counts = [0u64; 4096];
     survey(m, roots, &mut order, &mut rank, &mut degrees, &mut counts);
     if !too_high(&degrees, target, roots) {
-        return Next::Done;
+        return None;
     }
     let mut high = [0u64; 4096];
     let mut found = [0u64; 4096];
@@ -87,5 +77,5 @@ pub(crate) fn next_choice(m: &[u64], roots: &[u64], target: u64) -> Next
         m, &order, &rank, &degrees, &counts, target, &mut high, &mut found,
     );
     let s = best_candidate(&degrees, &found, target, m[1]);
-    Next::Node(s, is_base(m, &rank, s))
+    Some((s, is_base(m, &rank, s)))
 }

@@ -3,7 +3,7 @@ ghost use Rattle.std.specs.Prelude.{◌≡◌, map, ◌+◌, ◌<◌, ◌≤◌,
 ghost use Rattle.layout.specs.Words.{used, limit, offset};
 ghost use Rattle.lowering.specs.Lowering.{renamed, rename_operands, redirected};
 
-use circuit::check::{Step, step_at};
+use circuit::check::step_at;
 use circuit::place::{node_at, write_word};
 
 // s becomes n where it is named.
@@ -24,8 +24,8 @@ fn rename_operands(m: &mut [u64], s: u64, n: u64, i: u64)
     }
     let operands = step_at(m, i);
     match operands {
-        Step::Stay => {}
-        Step::Two(l, r) => {
+        None => {}
+        Some((l, r)) => {
             write_word(m, i, 1, rename(s, n, l));
             write_word(m, i, 2, rename(s, n, r));
         }
@@ -38,11 +38,8 @@ pub(crate) fn redirect(m: &mut [u64], s: u64, n: u64)
     ensures { m.new ≡ redirected m.old s n }
 {
     write_word(m, s, 4, 0);
-    let u = m[1];
-    let mut i: u64 = 0;
-    while i < u {
+    for i in 0..m[1] {
         rename_operands(m, s, n, i);
-        i += 1;
     }
 }
 
@@ -50,9 +47,7 @@ pub(crate) fn redirect(m: &mut [u64], s: u64, n: u64)
 pub(crate) fn rename_roots(roots: &mut [u64], s: u64, n: u64)
     ensures { roots.new ≡ map (renamed s n) roots.old }
 {
-    let mut k = 0;
-    while k < roots.len() {
-        roots[k] = rename(s, n, roots[k]);
-        k += 1;
+    for root in roots {
+        *root = rename(s, n, *root);
     }
 }

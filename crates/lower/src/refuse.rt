@@ -1,8 +1,9 @@
-// The refusals of a lowering, by their numbers and in document 01's order. 0 is none.
+// The refusals of a lowering, in document 01's order.
 ghost use Rattle.std.specs.Prelude.{◌≡◌, true, false, ◌||◌, ◌-◌, ◌*◌, ◌≤◌, length, ltb};
 ghost use Rattle.layout.specs.Words.{used, limit};
 ghost use Rattle.layout.specs.NotCircuit.{not_circuit, bad_id};
 ghost use Rattle.layout.specs.Outcomes.{refusal};
+ghost use Rattle.layout.specs.Answers.{answer_number};
 ghost use Rattle.circuit.specs.Rank.{Sorted};
 ghost use Rattle.reading.specs.Refusals.{over_degree};
 ghost use Rattle.lowering.specs.Lowering.{too_high};
@@ -13,7 +14,7 @@ use crate::next::{occurrences, survey};
 use crate::tests::{any_at_or_above, any_loose, any_over, too_high, too_wide};
 use circuit::calls::is_circuit;
 use circuit::check::limit_of;
-use layout::refusal::{BAD_ID, COLUMNS, DEGREE, FULL, LOOSE, NO_ROOM, NOT_CIRCUIT, PATHS, TARGET};
+use layout::refusal::Refusal;
 use paths::ids::bad_id;
 
 // The bound of degrees.
@@ -34,22 +35,22 @@ fn over_degree(m: &[u64], roots: &[u64]) -> bool
 }
 
 // 1, 8, 2, 11: these are tested of every lowering.
-pub(crate) fn first_refusal(m: &[u64], roots: &[u64], target: u64) -> u64
-    ensures { result ≡ first_refusal target m.now roots.now }
+pub(crate) fn first_refusal(m: &[u64], roots: &[u64], target: u64) -> Result<(), Refusal>
+    ensures { answer_number result ≡ first_refusal target m.now roots.now }
 {
     if !is_circuit(m) {
-        return NOT_CIRCUIT;
+        return Err(Refusal::NotCircuit);
     }
     if target < 2 {
-        return TARGET;
+        return Err(Refusal::Target);
     }
     if bad_id(m, roots) {
-        return BAD_ID;
+        return Err(Refusal::BadId);
     }
     if over_degree(m, roots) {
-        return DEGREE;
+        return Err(Refusal::Degree);
     }
-    0
+    Ok(())
 }
 
 // Whether some root's degree exceeds the target: else nothing more is tested, and nothing done.
@@ -70,13 +71,9 @@ fn bad_columns(m: &[u64], main_count: u64, aux_count: u64, heavy: u64) -> bool
     requires { not_circuit m.now ≡ false }
     ensures { result ≡ columns_for main_count aux_count m.now heavy }
 {
-    if any_at_or_above(m, main_count, aux_count) {
-        return true;
-    }
-    if too_wide(main_count, heavy) {
-        return true;
-    }
-    too_wide(aux_count, heavy)
+    any_at_or_above(m, main_count, aux_count)
+        || too_wide(main_count, heavy)
+        || too_wide(aux_count, heavy)
 }
 
 // PATHS: some node of degree above 1 occurs too often.
@@ -111,32 +108,29 @@ fn too_full(m: &[u64], heavy: u64) -> bool
 fn too_short(main_room: u64, aux_room: u64, heavy: u64) -> bool
     ensures { result ≡ (ltb main_room heavy || ltb aux_room heavy) }
 {
-    if main_room < heavy {
-        return true;
-    }
-    aux_room < heavy
+    main_room < heavy || aux_room < heavy
 }
 
-// The first that applies gives the number.
-fn first_of(loose: bool, columns: bool, paths: bool, full: bool, room: bool) -> u64
-    ensures { result ≡ refusal (then_tests loose columns paths full room) }
+// The first that applies is the refusal.
+fn first_of(loose: bool, columns: bool, paths: bool, full: bool, room: bool) -> Result<(), Refusal>
+    ensures { answer_number result ≡ refusal (then_tests loose columns paths full room) }
 {
     if loose {
-        return LOOSE;
+        return Err(Refusal::Loose);
     }
     if columns {
-        return COLUMNS;
+        return Err(Refusal::Columns);
     }
     if paths {
-        return PATHS;
+        return Err(Refusal::Paths);
     }
     if full {
-        return FULL;
+        return Err(Refusal::Full);
     }
     if room {
-        return NO_ROOM;
+        return Err(Refusal::NoRoom);
     }
-    0
+    Ok(())
 }
 
 // 10, 9, 12, 6, 13: tested where some root's degree exceeds the target. Each list has so many places.
@@ -148,9 +142,9 @@ pub(crate) fn then_refusal(
     aux_count: u64,
     main_room: u64,
     aux_room: u64,
-) -> u64
+) -> Result<(), Refusal>
     requires { Passed m.now roots.now × (too_high target m.now roots.now ≡ true) }
-    ensures { result ≡ then_refusal target main_count aux_count main_room aux_room m.now roots.now }
+    ensures { answer_number result ≡ then_refusal target main_count aux_count main_room aux_room m.now roots.now }
 {
     let mut order = [0u64; 4096];
     let mut rank = [0u64; 4096];

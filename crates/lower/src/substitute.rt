@@ -7,7 +7,6 @@ ghost use Rattle.lower.specs.Substituting.{input_at, Fresh, Differing, Gives, Su
 
 use crate::redirect::{redirect, rename_roots};
 use build::several::{class_anew, subtract};
-use build::steps::Made;
 use circuit::place::make;
 use layout::node::{Expression, Position};
 
@@ -47,11 +46,7 @@ fn make_difference(m: &mut [u64], n: u64, s: u64) -> u64
     let mut table = [0u64; 24574];
     let mut least = [0u64; 4097];
     class_anew(m, &mut numbers, &mut table, &mut least);
-    let made = subtract(m, &mut numbers, &mut table, &mut least, n, s);
-    match made {
-        Made::At(i) => i,
-        Made::Full => 0,
-    }
+    subtract(m, &mut numbers, &mut table, &mut least, n, s).unwrap()
 }
 
 // Node s is replaced by a new input, a main one if s passes the base test. The redirect comes before the constraint: the constraint keeps naming the chosen node.

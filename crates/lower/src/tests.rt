@@ -6,8 +6,8 @@ ghost use Rattle.layout.specs.NotCircuit.{not_circuit};
 ghost use Rattle.lowering.specs.Refusals.{at_or_above, input_at_or_above};
 ghost use Rattle.lower.specs.Tables.{above_in, is_loose_in, is_over_in};
 
-use crate::choose::{entry, is_above};
-use circuit::place::{expression_at, node_at};
+use crate::choose::is_above;
+use circuit::place::{entry, expression_at, node_at};
 use layout::node::{Expression, Position};
 
 // The highest path count, and the highest column with one more.
@@ -19,14 +19,7 @@ const MOST_COLUMNS: u64 = 65536;
 pub(crate) fn too_high(degrees: &[u64], target: u64, roots: &[u64]) -> bool
     ensures { result ≡ any (above_in degrees.now target) roots.now }
 {
-    let mut k = 0;
-    while k < roots.len() {
-        if is_above(degrees, target, roots[k]) {
-            return true;
-        }
-        k += 1;
-    }
-    false
+    roots.iter().any(|&i| is_above(degrees, target, i))
 }
 
 // Whether node i is loose and lies below the roots.
@@ -34,11 +27,7 @@ fn is_loose(m: &[u64], counts: &[u64], i: u64) -> bool
     requires { offset i + 6 ≤ length m.now }
     ensures { result ≡ is_loose_in m.now counts.now i }
 {
-    if entry(counts, i) == 0 {
-        return false;
-    }
-    let node = node_at(m, i);
-    !node.registered
+    entry(counts, i) != 0 && !node_at(m, i).registered
 }
 
 // LOOSE: a loose node below a root, or a loose root.
@@ -46,13 +35,10 @@ pub(crate) fn any_loose(m: &[u64], counts: &[u64]) -> bool
     requires { not_circuit m.now ≡ false }
     ensures { result ≡ any (is_loose_in m.now counts.now) (up_to (used m.now)) }
 {
-    let n = m[1];
-    let mut i: u64 = 0;
-    while i < n {
+    for i in 0..m[1] {
         if is_loose(m, counts, i) {
             return true;
         }
-        i += 1;
     }
     false
 }
@@ -61,22 +47,17 @@ pub(crate) fn any_loose(m: &[u64], counts: &[u64]) -> bool
 fn is_over(degrees: &[u64], occurrences: &[u64], i: u64) -> bool
     ensures { result ≡ is_over_in degrees.now occurrences.now i }
 {
-    if !is_above(degrees, 1, i) {
-        return false;
-    }
-    MOST_PATHS < entry(occurrences, i)
+    is_above(degrees, 1, i) && MOST_PATHS < entry(occurrences, i)
 }
 
 // PATHS: the paths from all high nodes to some node of degree above 1 sum over the bound.
 pub(crate) fn any_over(degrees: &[u64], occurrences: &[u64], n: u64) -> bool
     ensures { result ≡ any (is_over_in degrees.now occurrences.now) (up_to n) }
 {
-    let mut i: u64 = 0;
-    while i < n {
+    for i in 0..n {
         if is_over(degrees, occurrences, i) {
             return true;
         }
-        i += 1;
     }
     false
 }
@@ -110,13 +91,10 @@ pub(crate) fn any_at_or_above(m: &[u64], main_count: u64, aux_count: u64) -> boo
     requires { not_circuit m.now ≡ false }
     ensures { result ≡ any (λ i. input_at_or_above main_count aux_count (expression_at m.now i)) (up_to (used m.now)) }
 {
-    let n = m[1];
-    let mut i: u64 = 0;
-    while i < n {
+    for i in 0..m[1] {
         if input_at_or_above(main_count, aux_count, expression_at(m, i)) {
             return true;
         }
-        i += 1;
     }
     false
 }
@@ -125,8 +103,5 @@ pub(crate) fn any_at_or_above(m: &[u64], main_count: u64, aux_count: u64) -> boo
 pub(crate) fn too_wide(count: u64, more: u64) -> bool
     ensures { result ≡ ltb 65536 (count + more) }
 {
-    if MOST_COLUMNS < count {
-        return true;
-    }
-    MOST_COLUMNS - count < more
+    MOST_COLUMNS < count || MOST_COLUMNS - count < more
 }

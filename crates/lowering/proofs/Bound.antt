@@ -1,9 +1,9 @@
 -- A lowering is a run; it has fewer steps than there are ids of degree above 1 below the roots; no degree rises; each constraint's degree is at most the target. Assumes nothing.
+use Rattle.std.specs.Prelude.{Some}
 use Prim.Native.Nat.{ℕ, zero, suc, ◌≤◌, ◌<◌}
 use mathlib.Core.Path.{◌≡◌, refl, sym, ◌∙◌, ap}
 use mathlib.Core.Logic.{◌≢◌, ◌⊎◌, inl, inr, ⊎_elim}
 use mathlib.Core.Bool.{Bool}
-use mathlib.Core.Option.{some}
 use mathlib.Core.List.{List, [], ◌∷◌, map}
 use native.Mathlib.Omega.{arith}
 use lib.ListN.{length}
@@ -167,13 +167,13 @@ module _ {T : ℕ} where
   constraint_degrees one (step hi ch st rest) q (inr h) = constraint_degrees one rest q h
 
 -- a leaf stays in a run
-leaf_stays : {c c' : Look} {ys : List Position} {qs : List ℕ} (run : Run c c' ys qs) (n : ℕ) (x : Leaf) → c n ≡ some (leaf_e x) → c' n ≡ some (leaf_e x)
+leaf_stays : {c c' : Look} {ys : List Position} {qs : List ℕ} (run : Run c c' ys qs) (n : ℕ) (x : Leaf) → c n ≡ Some (leaf_e x) → c' n ≡ Some (leaf_e x)
 leaf_stays done n x h = h
-leaf_stays (more st run) n x h = let (e, p, k) = st.move.old n (leaf_e x) h in leaf_stays run n x (p ∙ ap some k)
+leaf_stays (more st run) n x h = let (e, p, k) = st.move.old n (leaf_e x) h in leaf_stays run n x (p ∙ ap Some k)
 
 -- each new column stands, at the end, where a chosen node was led
 pub column_at : {T : ℕ} {c c' : Look} {g g' : ℕ → Bool} {rs rs' qs ss : List ℕ} {ys : List Position} (low : Lowered T c g rs c' g' rs' ys qs ss) (y : Position) → In y ys
-    → (s : ℕ) × (n : ℕ) × In s ss × Led (as_run low).0 s n × (c' n ≡ some (leaf_e (input_leaf y)))
+    → (s : ℕ) × (n : ℕ) × In s ss × Led (as_run low).0 s n × (c' n ≡ Some (leaf_e (input_leaf y)))
 unfolding as_run
 column_at stop y h = absurd h
 column_at (step {s = s} {n = n} {y = y₁} hi ch st rest) y (inl e) =
@@ -188,10 +188,10 @@ gap_standing : (c : Look) (y : Position) (u : Shape) (q : ℕ) → Gap c y u q �
 gap_standing c y u q (sum n p hn hp hq) = (n, p, hn, inl hq)
 gap_standing c y u q (swapped n p hn hp hq) = (n, p, hn, inr hq)
 
-leaf_unchosen : (c : Look) (u : Shape) (s n : ℕ) (x : Leaf) → 3 ≤ deg u → Unf c u s → c n ≡ some (leaf_e x) → n ≢ s
+leaf_unchosen : (c : Look) (u : Shape) (s n : ℕ) (x : Leaf) → 3 ≤ deg u → Unf c u s → c n ≡ Some (leaf_e x) → n ≢ s
 leaf_unchosen c (lf z) s n x h w k e = omega (arith, leaf_low z)
 leaf_unchosen c (op o a b) s n x h (l, r, p, v, w) k e =
-    let z : ◌≡◌ {A = ℕ} 0 1 = let k' : c s ≡ some (leaf_e x) = rw e at k in cc in
+    let z : ◌≡◌ {A = ℕ} 0 1 = let k' : c s ≡ Some (leaf_e x) = rw e at k in cc in
     omega arith
 
 stays_named : (s n' n l' : ℕ) → n ≢ s → Moved s n' n l' → l' ≡ n
@@ -202,16 +202,16 @@ step_standing : {c c' : Look} {s n' q' : ℕ} {y' : Position} {u : Shape} → St
 step_standing {c} {c'} {s} {n'} {u = u} st y q (n, p, hn, hq) =
     let free : n ≢ s = leaf_unchosen c u s n (input_leaf y) st.large st.move.chosen hn in
     let (e, k, stays) = st.move.old n (leaf_e (input_leaf y)) hn in
-    let there : c' n ≡ some (leaf_e (input_leaf y)) = k ∙ ap some stays in
+    let there : c' n ≡ Some (leaf_e (input_leaf y)) = k ∙ ap Some stays in
     go free there hq
   where
-    go : n ≢ s → c' n ≡ some (leaf_e (input_leaf y)) → (c q ≡ some (op_e Add n p)) ⊎ (c q ≡ some (op_e Add p n)) → Standing c' y q
+    go : n ≢ s → c' n ≡ Some (leaf_e (input_leaf y)) → (c q ≡ Some (op_e Add n p)) ⊎ (c q ≡ Some (op_e Add p n)) → Standing c' y q
     go free there (inl h) =
         let (e, k, (l', r', same, left, right)) = st.move.old q (op_e Add n p) h in
-        (n, r', there, inl (k ∙ ap some (same ∙ ap (λ (i : ℕ). op_e Add i r') (stays_named s n' n l' free left))))
+        (n, r', there, inl (k ∙ ap Some (same ∙ ap (λ (i : ℕ). op_e Add i r') (stays_named s n' n l' free left))))
     go free there (inr h) =
         let (e, k, (l', r', same, left, right)) = st.move.old q (op_e Add p n) h in
-        (n, l', there, inr (k ∙ ap some (same ∙ ap (λ (i : ℕ). op_e Add l' i) (stays_named s n' n r' free right))))
+        (n, l', there, inr (k ∙ ap Some (same ∙ ap (λ (i : ℕ). op_e Add l' i) (stays_named s n' n r' free right))))
 
 run_standing : {c c' : Look} {ys : List Position} {qs : List ℕ} → Run c c' ys qs → (y : Position) (q : ℕ) → Standing c y q → Standing c' y q
 run_standing done y q h = h

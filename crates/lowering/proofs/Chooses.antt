@@ -1,10 +1,9 @@
 -- What the definitions choose is what the theory may choose. Assumes nothing.
-use Rattle.std.specs.Prelude.{if◌then◌else◌}
+use Rattle.std.specs.Prelude.{if◌then◌else◌, Some}
 use Prim.Native.Nat.{ℕ, suc, ◌≤◌, ◌<◌, max}
 use mathlib.Core.Path.{◌≡◌, refl, sym, ◌∙◌, ap, ap₂, subst}
 use mathlib.Core.Logic.{◌⊎◌, inl, inr, ⊎_elim}
 use mathlib.Core.Bool.{Bool, true, false, ◌&&◌, ◌||◌, not}
-use mathlib.Core.Option.{some}
 use mathlib.Core.List.{List, [], ◌∷◌, ◌++◌, map}
 use native.Mathlib.Omega.{arith}
 use lib.Dec.{eqb, ltb}
@@ -69,7 +68,7 @@ unfolding walk
 walk_top c (leaf j a) r (e, p) = inl (sym e)
 walk_top c (branch j o x y) r (e, l, k, p, v, w) = in_right r (walk x) (j ∷ walk y) (inl (sym e))
 
-walk_down : (c : Look) (t : Tree) (r : ℕ) → Tru c t r → (j : ℕ) (o : Op) (l k : ℕ) → In j (walk t) → c j ≡ some (op_e o l k) → In l (walk t) × In k (walk t)
+walk_down : (c : Look) (t : Tree) (r : ℕ) → Tru c t r → (j : ℕ) (o : Op) (l k : ℕ) → In j (walk t) → c j ≡ Some (op_e o l k) → In l (walk t) × In k (walk t)
 unfolding walk
 walk_down c (leaf i a) r (e, p) j o l k (inl h) q =
     let z : j ≡ r = h ∙ e in

@@ -1,9 +1,9 @@
 -- Finding and making: what the building steps give. Assumes nothing.
+use Rattle.std.specs.Prelude.{Option, None, Some}
 use Prim.Native.Nat.{ℕ, suc, ◌+◌, ◌*◌, ◌≤◌, ◌<◌}
 use mathlib.Core.Path.{◌≡◌, refl, sym, ◌∙◌, ap, ap₂}
 use mathlib.Core.Logic.{◌≢◌, ◌⊎◌, inl, inr, ⊎_elim}
 use mathlib.Core.Bool.{true, false, ◌&&◌}
-use mathlib.Core.Option.{Option, none, some}
 use mathlib.Core.List.{List, [], ◌∷◌}
 use native.Mathlib.Decide.{ℕ_discrete}
 use native.Mathlib.Omega.{arith}
@@ -72,14 +72,14 @@ same_shape (branch i o l r) (branch j q s t) h =
     cc
 
 -- what is found has the tree looked for
-pub found : (m : List ℕ) → Sound m → (e : Expression) (i : ℕ) → find m e ≡ some i → Unf (look m) (shape (tree_of m e)) i
+pub found : (m : List ℕ) → Sound m → (e : Expression) (i : ℕ) → find m e ≡ Some i → Unf (look m) (shape (tree_of m e)) i
 unfolding find
 found m s e i h =
     let (k, p) = first_some (λ i. registered m i && same (tree m i) (tree_of m e)) (up_to (used m)) i h in
     let (g, q) = and-true (registered m i) (same (tree m i) (tree_of m e)) p in
     rw (same_shape (tree m i) (tree_of m e) q) at (tree_shape m s i (in_up_to (used m) i k))
 
-pub found_mark : (m : List ℕ) (e : Expression) (i : ℕ) → find m e ≡ some i → registered m i ≡ true
+pub found_mark : (m : List ℕ) (e : Expression) (i : ℕ) → find m e ≡ Some i → registered m i ≡ true
 unfolding find
 found_mark m e i h =
     let (k, p) = first_some (λ i. registered m i && same (tree m i) (tree_of m e)) (up_to (used m)) i h in
@@ -108,7 +108,7 @@ shape_same (branch i o l r) (branch j q s t) h =
     rw eo (and_both (eqb (op_kind q) (op_kind q)) (same l s && same r t) (op_self q) (and_both (same l s) (same r t) (shape_same l s el) (shape_same r t er)))
 
 -- what is there and registered is found
-pub finds : (m : List ℕ) (e : Expression) (j : ℕ) → j < used m → registered m j ≡ true → shape (tree m j) ≡ shape (tree_of m e) → find m e ≢ none
+pub finds : (m : List ℕ) (e : Expression) (j : ℕ) → j < used m → registered m j ≡ true → shape (tree m j) ≡ shape (tree_of m e) → find m e ≢ None
 unfolding find
 finds m e j h g p n =
     let a : (registered m j && same (tree m j) (tree_of m e)) ≡ false = first-none (λ i. registered m i && same (tree m i) (tree_of m e)) (up_to (used m)) n j (up_to_in (used m) j h) in
@@ -119,11 +119,11 @@ finds m e j h g p n =
 -- a circuit with more nodes: old ones are as they were, no new input
 pub record Grew (m m' : List ℕ) : Type 0 where
   pub sound : Sound m'
-  pub ext : (i : ℕ) (e : Expr) → look m i ≡ some e → look m' i ≡ some e
+  pub ext : (i : ℕ) (e : Expr) → look m i ≡ Some e → look m' i ≡ Some e
   pub marks : (i : ℕ) → i < used m → registered m' i ≡ registered m i
   pub counts : (i : ℕ) → i < used m → (node_at m' i).references ≡ (node_at m i).references
   pub more : used m ≤ used m'
-  pub inputs : (i : ℕ) (q : Position) → look m' i ≡ some (leaf_e (input_leaf q)) → look m i ≡ some (leaf_e (input_leaf q))
+  pub inputs : (i : ℕ) (q : Position) → look m' i ≡ Some (leaf_e (input_leaf q)) → look m i ≡ Some (leaf_e (input_leaf q))
   -- what fits into the lent words takes no more
   pub in_place : 2 + 6 * used m' ≤ length m → length m' ≡ length m
   pub proper : Proper m → Proper m'
@@ -148,7 +148,7 @@ grew_more a b c g h =
       row = h.row ∙ g.row;
     }
 
-pub unf_ext : (c c' : Look) → ((i : ℕ) (e : Expr) → c i ≡ some e → c' i ≡ some e) → (t : Shape) (i : ℕ) → Unf c t i → Unf c' t i
+pub unf_ext : (c c' : Look) → ((i : ℕ) (e : Expr) → c i ≡ Some e → c' i ≡ Some e) → (t : Shape) (i : ℕ) → Unf c t i → Unf c' t i
 unf_ext c c' h (lf x) i p = h i (leaf_e x) p
 unf_ext c c' h (op o a b) i (l, r, p, v, w) = (l, r, h i (op_e o l r) p, unf_ext c c' h a l v, unf_ext c c' h b r w)
 
@@ -167,7 +167,7 @@ Ready m (Challenge k) = Unit {0}
 Ready m (Operation o l r) = ((t : Shape) × Unf (look m) t l) × ((t : Shape) × Unf (look m) t r)
 Ready m (Input q) = Unit {0}
 
-made_ext : (m : List ℕ) → Sound m → (e : Expression) (i : ℕ) (f : Expr) → look m i ≡ some f → look (made m e) i ≡ some f
+made_ext : (m : List ℕ) → Sound m → (e : Expression) (i : ℕ) (f : Expr) → look m i ≡ Some f → look (made m e) i ≡ Some f
 made_ext m s e i f h = look_made_old m e s.room i (look_lt m i f h) ∙ h
 
 made_tree : (m : List ℕ) → Sound m → (e : Expression) → Ready m e → (t : Shape) × Unf (look (made m e)) t (used m)
@@ -228,8 +228,8 @@ found_or_made m s e r n good = go (find m e) refl
     at_new (Input q) r = look_made_new m (Input q) s.room
 
     go : (x : Option ℕ) → find m e ≡ x → Got m (shape (tree_of m e)) (or_else x m (built (made m e) (used m)))
-    go (some i) h = record { grew = grew_self m s; tree = found m s e i h; mark = found_mark m e i h; few = omega arith; new = λ j a b. absurd (omega arith) }
-    go none h = record { grew = made_grew m s e r n good; tree = at_new e r; mark = made_mark m e s.room; few = omega (arith, made_used m e s.room); new = λ j a b. omega (arith, made_used m e s.room) }
+    go (Some i) h = record { grew = grew_self m s; tree = found m s e i h; mark = found_mark m e i h; few = omega arith; new = λ j a b. absurd (omega arith) }
+    go None h = record { grew = made_grew m s e r n good; tree = at_new e r; mark = made_mark m e s.room; few = omega (arith, made_used m e s.room); new = λ j a b. omega (arith, made_used m e s.room) }
 
 -- either order
 pub either_order_lem : (m : List ℕ) → Sound m → (o : Op) (l r : ℕ) (a b : Shape) → Unf (look m) a l → Unf (look m) b r → Got m (op o a b) (either_order m o l r) ⊎ Got m (op o b a) (either_order m o l r)
@@ -237,7 +237,7 @@ unfolding either_order
 either_order_lem m s o l r a b v w = go (find m (Operation o r l)) refl
   where
     go : (x : Option ℕ) → find m (Operation o r l) ≡ x → Got m (op o a b) (or_else x m (find_or_make m (Operation o l r))) ⊎ Got m (op o b a) (or_else x m (find_or_make m (Operation o l r)))
-    go (some i) h = inr (rw (shape_is m a l v, shape_is m b r w) at (let g : Got m (op o (shape (tree m r)) (shape (tree m l))) (built m i) = record { grew = grew_self m s; tree = found m s (Operation o r l) i h; mark = found_mark m (Operation o r l) i h; few = omega arith; new = λ j a b. absurd (omega arith) } in g))
-    go none h =
+    go (Some i) h = inr (rw (shape_is m a l v, shape_is m b r w) at (let g : Got m (op o (shape (tree m r)) (shape (tree m l))) (built m i) = record { grew = grew_self m s; tree = found m s (Operation o r l) i h; mark = found_mark m (Operation o r l) i h; few = omega arith; new = λ j a b. absurd (omega arith) } in g))
+    go None h =
         let g : Got m (op o (shape (tree m l)) (shape (tree m r))) (find_or_make m (Operation o l r)) = found_or_made m s (Operation o l r) ((a, v), (b, w)) (λ q e. absurd (let z : ◌≡◌ {A = ℕ} 0 1 = cc in omega arith)) (λ x e. absurd (let z : ◌≡◌ {A = ℕ} 0 1 = cc in omega arith)) in
         inl (rw (shape_is m a l v, shape_is m b r w) at g)

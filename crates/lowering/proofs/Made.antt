@@ -1,9 +1,9 @@
 -- One node more: what the words say afterwards. Assumes nothing.
+use Rattle.std.specs.Prelude.{Some}
 use Prim.Native.Nat.{ℕ, suc, ◌+◌, ◌*◌, ◌≤◌, ◌<◌}
 use mathlib.Core.Path.{◌≡◌, refl, sym, ◌∙◌, ap}
 use mathlib.Core.Logic.{◌≢◌, ◌⊎◌, inl, inr}
 use mathlib.Core.Bool.{true}
-use mathlib.Core.Option.{some}
 use mathlib.Core.List.{List, [], ◌∷◌, ◌++◌, append_assoc}
 use native.Mathlib.Decide.{ℕ_discrete}
 use native.Mathlib.Omega.{arith}
@@ -149,17 +149,17 @@ module _ (m : List ℕ) (e : Expression) (room : 2 + 6 * used m ≤ length m) wh
 
   pub look_made_old : (i : ℕ) → i < used m → look (made m e) i ≡ look m i
   look_made_old i h =
-      look_in (made m e) i (rw made_used (omega arith)) ∙ ap (λ (n : Node). some (expr_of n.expression)) (made_old i h) ∙ sym (look_in m i h)
+      look_in (made m e) i (rw made_used (omega arith)) ∙ ap (λ (n : Node). Some (expr_of n.expression)) (made_old i h) ∙ sym (look_in m i h)
 
-  pub look_made_new : look (made m e) (used m) ≡ some (expr_of e)
-  look_made_new = look_in (made m e) (used m) (rw made_used (omega arith)) ∙ ap (λ (x : Expression). some (expr_of x)) made_new
+  pub look_made_new : look (made m e) (used m) ≡ Some (expr_of e)
+  look_made_new = look_in (made m e) (used m) (rw made_used (omega arith)) ∙ ap (λ (x : Expression). Some (expr_of x)) made_new
 
-  pub look_made_back : (i : ℕ) (f : Expr) → look (made m e) i ≡ some f → (look m i ≡ some f) ⊎ ((i ≡ used m) × (f ≡ expr_of e))
+  pub look_made_back : (i : ℕ) (f : Expr) → look (made m e) i ≡ Some f → (look m i ≡ Some f) ⊎ ((i ≡ used m) × (f ≡ expr_of e))
   look_made_back i f h = go (ℕ_discrete i (used m))
     where
-      go : Dec (i ≡ used m) → (look m i ≡ some f) ⊎ ((i ≡ used m) × (f ≡ expr_of e))
+      go : Dec (i ≡ used m) → (look m i ≡ Some f) ⊎ ((i ≡ used m) × (f ≡ expr_of e))
       go (yes p) =
-          let k : look (made m e) i ≡ some (expr_of e) = rw p look_made_new in
+          let k : look (made m e) i ≡ Some (expr_of e) = rw p look_made_new in
           inr (p, cc)
       go (no g) =
           let k : i < used (made m e) = look_lt (made m e) i f h in

@@ -1,9 +1,9 @@
 -- What holds before each substitution, and after one more. Assumes nothing.
+use Rattle.std.specs.Prelude.{Some}
 use Prim.Native.Nat.{ℕ, suc, ◌+◌, ◌*◌, ◌≤◌, ◌<◌}
 use mathlib.Core.Path.{◌≡◌, refl, sym, ◌∙◌, ap, ap₂}
 use mathlib.Core.Logic.{◌≢◌, ◌⊎◌, inl, inr}
 use mathlib.Core.Bool.{Bool, true, false}
-use mathlib.Core.Option.{some}
 use mathlib.Core.List.{List, [], ◌∷◌, ◌++◌, map}
 use native.Mathlib.Omega.{arith}
 use lib.ListN.{length, get_or, length-append}
@@ -41,7 +41,7 @@ pub record State (mc ac : ℕ) (x : Lowering) : Type 0 where
   pub sound : Sound x.circuit
   pub rooted : Rooted (look x.circuit) x.roots
   pub regs : Regs (look x.circuit) (λ i. registered x.circuit i) x.roots
-  pub columns : (i : ℕ) (q : Position) → look x.circuit i ≡ some (leaf_e (input_leaf q)) → Taken (mc + length x.main) (ac + length x.aux) q
+  pub columns : (i : ℕ) (q : Position) → look x.circuit i ≡ Some (leaf_e (input_leaf q)) → Taken (mc + length x.main) (ac + length x.aux) q
 
 -- the new column and where its constraint goes
 pub data Added (mc ac : ℕ) (x x₁ : Lowering) (y : Position) (q : ℕ) : Type 0 where
@@ -59,7 +59,7 @@ pub record OneMore (T mc ac : ℕ) (x x₁ : Lowering) : Type 0 where
   pub st : Stepped (look x.circuit) (look x₁.circuit) (λ i. registered x.circuit i) (λ i. registered x₁.circuit i) s n y q u
   pub to : x₁.roots ≡ map (redir_id s n) x.roots
   pub sound : Sound x₁.circuit
-  pub inputs : (i : ℕ) (p : Position) → look x₁.circuit i ≡ some (leaf_e (input_leaf p)) → (look x.circuit i ≡ some (leaf_e (input_leaf p))) ⊎ (p ≡ y)
+  pub inputs : (i : ℕ) (p : Position) → look x₁.circuit i ≡ Some (leaf_e (input_leaf p)) → (look x.circuit i ≡ Some (leaf_e (input_leaf p))) ⊎ (p ≡ y)
   pub added : Added mc ac x x₁ y q
   pub four_more : used x₁.circuit ≤ 4 + used x.circuit
   pub three_more : HasMinus x.circuit → used x₁.circuit ≤ 3 + used x.circuit
@@ -90,7 +90,7 @@ module _ (T mc ac : ℕ) (two : 2 ≤ T) where
       go s z u ch true e =
           let m : List ℕ = x.circuit in
           let y : Position = Main (mc + length x.main) in
-          let fresh : (i : ℕ) → look x.circuit i ≢ some (leaf_e (input_leaf (Main (mc + length x.main)))) = λ i h. omega (arith, state.columns i (Main (mc + length x.main)) h) in
+          let fresh : (i : ℕ) → look x.circuit i ≢ Some (leaf_e (input_leaf (Main (mc + length x.main)))) = λ i h. omega (arith, state.columns i (Main (mc + length x.main)) h) in
           let kind : is_main (Main (mc + length x.main)) ≡ true → base_s u ≡ true = λ h. ap base_s (sym (shape_is m u s ch.tree)) ∙ sym (base_shape (tree m s)) ∙ e in
           rw (substituted_is m state.sound s u ch.low ch.tree y fresh kind mc ac true x refl e refl)
           (record {
@@ -120,7 +120,7 @@ module _ (T mc ac : ℕ) (two : 2 ≤ T) where
       go s z u ch false e =
           let m : List ℕ = x.circuit in
           let y : Position = Aux (ac + length x.aux) in
-          let fresh : (i : ℕ) → look x.circuit i ≢ some (leaf_e (input_leaf (Aux (ac + length x.aux)))) = λ i h. omega (arith, state.columns i (Aux (ac + length x.aux)) h) in
+          let fresh : (i : ℕ) → look x.circuit i ≢ Some (leaf_e (input_leaf (Aux (ac + length x.aux)))) = λ i h. omega (arith, state.columns i (Aux (ac + length x.aux)) h) in
           let kind : is_main (Aux (ac + length x.aux)) ≡ true → base_s u ≡ true = λ h. absurd (let z : ◌≡◌ {A = ℕ} 0 1 = cc in omega arith) in
           rw (substituted_is m state.sound s u ch.low ch.tree y fresh kind mc ac false x refl e refl)
           (record {

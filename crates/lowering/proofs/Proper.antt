@@ -1,9 +1,9 @@
 -- What NOT_CIRCUIT asks beside soundness, as facts; and what keeps it. Assumes nothing.
+use Rattle.std.specs.Prelude.{Some}
 use Prim.Native.Nat.{ℕ, zero, suc, ◌+◌, ◌*◌, ◌≤◌, ◌<◌}
 use mathlib.Core.Path.{◌≡◌, refl, sym}
 use mathlib.Core.Logic.{inl, inr, ⊎_elim}
 use mathlib.Core.Bool.{Bool, true, false, ◌&&◌, ◌||◌, not}
-use mathlib.Core.Option.{some}
 use mathlib.Core.List.{List, [], ◌∷◌}
 use native.Mathlib.Decide.{ℕ_discrete}
 use native.Mathlib.Omega.{arith}
@@ -37,7 +37,7 @@ pub record Proper (m : List ℕ) : Type 0 where
   pub row : (eqb (get_or m 0 0) 1 || eqb (get_or m 0 0) 2) ≡ true
   pub kinds : (i : ℕ) → i < used m → word m i 0 ≤ 8
   pub marks : (i : ℕ) → i < used m → word m i 4 ≤ 1
-  pub leaves : (i : ℕ) (x : Leaf) → look m i ≡ some (leaf_e x) → good_leaf (get_or m 0 0) x
+  pub leaves : (i : ℕ) (x : Leaf) → look m i ≡ Some (leaf_e x) → good_leaf (get_or m 0 0) x
 
 pub made_proper : (m : List ℕ) → 2 + 6 * used m ≤ length m → (e : Expression) → ((x : Leaf) → expr_of e ≡ leaf_e x → good_leaf (get_or m 0 0) x) → Proper m → Proper (made m e)
 made_proper m room e good h =
@@ -126,7 +126,7 @@ circuit_of m s h u =
     rw (le-ltb (length m) 2 (omega (arith, s.room)), h.row, le-ltb (limit m) (used m) u, none_false (bad_node m) (up_to (used m)) good)
     (none_false (goes_on m (used m)) (up_to (used m)) (λ i k. let (t, w) = s.whole i (in_up_to (used m) i k) in stops m (used m) t i (depth_bound (look m) (used m) (look_lt m) t i w) w))
   where
-    operands : (i : ℕ) (o : Op) (l r : ℕ) (t : Shape) → Unf (look m) t i → look m i ≡ some (op_e o l r) → (l < used m) × (r < used m)
+    operands : (i : ℕ) (o : Op) (l r : ℕ) (t : Shape) → Unf (look m) t i → look m i ≡ Some (op_e o l r) → (l < used m) × (r < used m)
     operands i o l r (lf x) w p = absurd (let z : ◌≡◌ {A = ℕ} 0 1 = cc in omega arith)
     operands i o l r (op o' a b) (l', r', p', v, w) p =
         let el : l' ≡ l = cc in
@@ -135,7 +135,7 @@ circuit_of m s h u =
         let (e', q') = unf_some (look m) b r' w in
         (rw el at (look_lt m l' e q), rw er at (look_lt m r' e' q'))
 
-    expression_good : (i : ℕ) → i < used m → (e : Expression) → look m i ≡ some (expr_of e) → bad_expression m e ≡ false
+    expression_good : (i : ℕ) → i < used m → (e : Expression) → look m i ≡ Some (expr_of e) → bad_expression m e ≡ false
     expression_good i k (Base w) p = h.leaves i (base_leaf w) p
     expression_good i k (Extension w) p = h.leaves i (extension_leaf w) p
     expression_good i k (Challenge w) p = h.leaves i (challenge_leaf w) p

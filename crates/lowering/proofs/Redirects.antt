@@ -1,10 +1,9 @@
 -- The redirect: what the words say afterwards. Assumes nothing.
-use Rattle.std.specs.Prelude.{if◌then◌else◌}
+use Rattle.std.specs.Prelude.{if◌then◌else◌, Some}
 use Prim.Native.Nat.{ℕ, zero, suc, ◌+◌, ◌*◌, ◌≤◌, ◌<◌}
 use mathlib.Core.Path.{◌≡◌, refl, sym, ◌∙◌, ap}
 use mathlib.Core.Logic.{◌≢◌, ◌⊎◌, inl, inr}
 use mathlib.Core.Bool.{Bool, true, false, ◌&&◌, ◌||◌}
-use mathlib.Core.Option.{some}
 use mathlib.Core.List.{List, [], ◌∷◌, ◌++◌}
 use native.Mathlib.Decide.{ℕ_discrete}
 use native.Mathlib.Omega.{arith}
@@ -276,30 +275,30 @@ module _ (s n : ℕ) (m : List ℕ) (room : 2 + 6 * used m ≤ length m) (hs : s
   pub redirected_mark : (i : ℕ) → i ≢ s → registered (redirected m s n) i ≡ registered m i
   redirected_mark i h = ap (λ (l : List ℕ). registered l i) all_parts ∙ part_mark (used m) i ∙ ap (λ (x : Node). x.registered) (cut_other i h)
 
-  look_redirected : (i : ℕ) (e : Expr) → look m i ≡ some e → look (redirected m s n) i ≡ some (redir_if s n (registered cut i) e)
+  look_redirected : (i : ℕ) (e : Expr) → look m i ≡ Some e → look (redirected m s n) i ≡ Some (redir_if s n (registered cut i) e)
   look_redirected i e h =
       let k : i < used m = look_lt m i e h in
       look_in (redirected m s n) i (rw redirected_used k)
-      ∙ ap (λ (l : List ℕ). some (expr_of (expression_at l i))) all_parts
-      ∙ ap (λ (x : Expr). some x) (part_before (used m) i (omega arith) k)
-      ∙ ap (λ (x : Expression). some (redir_if s n (registered cut i) (expr_of x))) (cut_expression i)
-      ∙ ap (λ (x : Expr). some (redir_if s n (registered cut i) x)) (look_is m i e h)
+      ∙ ap (λ (l : List ℕ). Some (expr_of (expression_at l i))) all_parts
+      ∙ ap (λ (x : Expr). Some x) (part_before (used m) i (omega arith) k)
+      ∙ ap (λ (x : Expression). Some (redir_if s n (registered cut i) (expr_of x))) (cut_expression i)
+      ∙ ap (λ (x : Expr). Some (redir_if s n (registered cut i) x)) (look_is m i e h)
 
-  pub redirected_kept : (i : ℕ) (e : Expr) → look m i ≡ some e → (e' : Expr) × (look (redirected m s n) i ≡ some e') × Kept s n e e'
+  pub redirected_kept : (i : ℕ) (e : Expr) → look m i ≡ Some e → (e' : Expr) × (look (redirected m s n) i ≡ Some e') × Kept s n e e'
   redirected_kept i e h = (redir_if s n (registered cut i) e, look_redirected i e h, kept s n (registered cut i) e)
 
-  pub redirected_turned : (i : ℕ) (e : Expr) → registered m i ≡ true → i ≢ s → look m i ≡ some e → look (redirected m s n) i ≡ some (redir_e s n e)
+  pub redirected_turned : (i : ℕ) (e : Expr) → registered m i ≡ true → i ≢ s → look m i ≡ Some e → look (redirected m s n) i ≡ Some (redir_e s n e)
   redirected_turned i e g q h =
       let k : registered cut i ≡ true = ap (λ (x : Node). x.registered) (cut_other i q) ∙ g in
-      look_redirected i e h ∙ ap (λ (b : Bool). some (redir_if s n b e)) k
+      look_redirected i e h ∙ ap (λ (b : Bool). Some (redir_if s n b e)) k
 
   -- no new leaf
-  pub redirected_leaf : (i : ℕ) (x : Leaf) → look (redirected m s n) i ≡ some (leaf_e x) → look m i ≡ some (leaf_e x)
+  pub redirected_leaf : (i : ℕ) (x : Leaf) → look (redirected m s n) i ≡ Some (leaf_e x) → look m i ≡ Some (leaf_e x)
   redirected_leaf i x h =
       let k : i < used m = omega (arith, look_lt (redirected m s n) i (leaf_e x) h, redirected_used) in
       go (expr_of (expression_at m i)) (registered cut i) (look_in m i k) (look_redirected i (expr_of (expression_at m i)) (look_in m i k))
     where
-      go : (e : Expr) (b : Bool) → look m i ≡ some e → look (redirected m s n) i ≡ some (redir_if s n b e) → look m i ≡ some (leaf_e x)
+      go : (e : Expr) (b : Bool) → look m i ≡ Some e → look (redirected m s n) i ≡ Some (redir_if s n b e) → look m i ≡ Some (leaf_e x)
       go (leaf_e z) true p q = cc
       go (leaf_e z) false p q = cc
       go (op_e o l r) true p q = absurd (let z : ◌≡◌ {A = ℕ} 0 1 = cc in omega arith)

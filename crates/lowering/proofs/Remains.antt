@@ -1,9 +1,9 @@
 -- While a root is too high there is a node to choose; and after the step an id of degree above 1 is left below the roots. Assumes nothing.
+use Rattle.std.specs.Prelude.{Some}
 use Prim.Native.Nat.{ℕ, zero, suc, ◌≤◌}
 use mathlib.Core.Path.{◌≡◌, refl, ◌∙◌, ap}
 use mathlib.Core.Logic.{◌≢◌, ◌⊎◌, inl, inr}
 use mathlib.Core.Bool.{Bool}
-use mathlib.Core.Option.{some}
 use mathlib.Core.List.{List, map}
 use native.Mathlib.Decide.{dec_le}
 use native.Mathlib.Omega.{arith}
@@ -87,7 +87,7 @@ module _ (T : ℕ) (two : 2 ≤ T) {c c' : Look} {g g' : ℕ → Bool} {s n q : 
       go (inr (p, k)) = k
 
   -- a product of two operands of degree 1 or more is one after the step
-  product_stays : (a b : Shape) (i l r : ℕ) → c' i ≡ some (op_e Multiply l r) → 2 ≤ deg a → 2 ≤ deg b → (t' : Shape) → Unf c' t' i → sub y u t' ≡ op Multiply a b → 3 ≤ deg t'
+  product_stays : (a b : Shape) (i l r : ℕ) → c' i ≡ Some (op_e Multiply l r) → 2 ≤ deg a → 2 ≤ deg b → (t' : Shape) → Unf c' t' i → sub y u t' ≡ op Multiply a b → 3 ≤ deg t'
   product_stays a b i l r p ha hb (lf x) w e = absurd (let z : ◌≡◌ {A = ℕ} 0 1 = cc in omega arith)
   product_stays a b i l r p ha hb (op o a' b') w e =
       let eo : o ≡ Multiply = cc in
@@ -107,7 +107,7 @@ module _ (T : ℕ) (two : 2 ≤ T) {c c' : Look} {g g' : ℕ → Bool} {s n q : 
   remains_from (op o a a') i (l, r, p, v, w) b b' d =
       go (λ k h. remains_from a l v (left b p) k h) (λ k h. remains_from a' r w (right b p) k h) (top T o (deg a) (deg a') d)
     where
-      found : c' i ≡ some (op_e o (redir_id s n l) (redir_id s n r))
+      found : c' i ≡ Some (op_e o (redir_id s n l) (redir_id s n r))
       found = st.turned i (op_e o l r) (regs i b) (other (op o a a') i (l, r, p, v, w) d) p
 
       go : (Below c' after l → suc (suc T) ≤ deg a → (h : ℕ) × Heavy c' after h) → (Below c' after r → suc (suc T) ≤ deg a' → (h : ℕ) × Heavy c' after h)

@@ -1,8 +1,8 @@
 -- Circuits as lookups of nodes by id; the shape (a tree without ids) that a node unfolds to; what is read off a shape: size, value, degree, substitution.
+use Rattle.std.specs.Prelude.{Option, Some}
 use Prim.Native.Nat.{ℕ, suc, ◌+◌, ◌<◌, max}
 use mathlib.Core.Path.{◌≡◌, ap}
 use mathlib.Core.Bool.{Bool, ◌&&◌}
-use mathlib.Core.Option.{Option, some}
 use native.Mathlib.Decide.{ℕ_discrete}
 use native.Mathlib.Omega.{arith}
 use Rattle.arithmetic.specs.declared.Triple.{Triple}
@@ -43,8 +43,8 @@ Look = ℕ → Option Expr
 
 -- node i of c unfolds to the shape: no fuel and no rank, by recursion on the shape
 abbrev pub Unf : Look → Shape → ℕ → Type 0
-Unf c (lf x) i = c i ≡ some (leaf_e x)
-Unf c (op o a b) i = (l : ℕ) × (r : ℕ) × (c i ≡ some (op_e o l r)) × Unf c a l × Unf c b r
+Unf c (lf x) i = c i ≡ Some (leaf_e x)
+Unf c (op o a b) i = (l : ℕ) × (r : ℕ) × (c i ≡ Some (op_e o l r)) × Unf c a l × Unf c b r
 
 -- every id below n has a tree: no operand is missing, and there is no cycle
 abbrev pub Whole : Look → ℕ → Type 0

@@ -1,10 +1,9 @@
 -- One substitution of the definitions is one step of the theory. Assumes nothing.
-use Rattle.std.specs.Prelude.{if◌then◌else◌}
+use Rattle.std.specs.Prelude.{if◌then◌else◌, Option, None, Some}
 use Prim.Native.Nat.{ℕ, suc, ◌+◌, ◌*◌, ◌≤◌, ◌<◌}
 use mathlib.Core.Path.{◌≡◌, refl, sym, ◌∙◌, ap, ap₂}
 use mathlib.Core.Logic.{◌≢◌, ◌⊎◌, inl, inr, ⊎_elim}
 use mathlib.Core.Bool.{Bool, true, false, ◌&&◌}
-use mathlib.Core.Option.{Option, none, some}
 use mathlib.Core.List.{List, [], ◌∷◌, ◌++◌, map}
 use native.Mathlib.Decide.{ℕ_discrete, dec_lt}
 use native.Mathlib.Omega.{arith}
@@ -39,7 +38,7 @@ base_shape (leaf i a) = refl
 base_shape (branch i o l r) = ap₂ ◌&&◌ (base_shape l) (base_shape r)
 
 -- one substitution of s, whose shape is u, by a new input at y, in a circuit that has no such input
-module _ (m : List ℕ) (sound : Sound m) (s : ℕ) (u : Shape) (large : 3 ≤ deg u) (at-s : Unf (look m) u s) (y : Position) (fresh : (i : ℕ) → look m i ≢ some (leaf_e (input_leaf y)))
+module _ (m : List ℕ) (sound : Sound m) (s : ℕ) (u : Shape) (large : 3 ≤ deg u) (at-s : Unf (look m) u s) (y : Position) (fresh : (i : ℕ) → look m i ≢ Some (leaf_e (input_leaf y)))
     (kind : is_main y ≡ true → base_s u ≡ true) where
   -- the new input is made
   pub input_made : find_or_make m (Input y) ≡ built (made m (Input y)) (used m)
@@ -47,8 +46,8 @@ module _ (m : List ℕ) (sound : Sound m) (s : ℕ) (u : Shape) (large : 3 ≤ d
   input_made = go (find m (Input y)) refl
     where
       go : (x : Option ℕ) → find m (Input y) ≡ x → or_else x m (built (made m (Input y)) (used m)) ≡ built (made m (Input y)) (used m)
-      go (some i) h = absurd (fresh i (found m sound (Input y) i h))
-      go none h = refl
+      go (Some i) h = absurd (fresh i (found m sound (Input y) i h))
+      go None h = refl
 
   pub one : List ℕ
   one = made m (Input y)
@@ -79,11 +78,11 @@ module _ (m : List ℕ) (sound : Sound m) (s : ℕ) (u : Shape) (large : 3 ≤ d
   unfolding one
   one_used = made_used m (Input y) sound.room
 
-  one_old : (i : ℕ) (e : Expr) → look m i ≡ some e → look one i ≡ some e
+  one_old : (i : ℕ) (e : Expr) → look m i ≡ Some e → look one i ≡ Some e
   unfolding one
   one_old i e h = look_made_old m (Input y) sound.room i (look_lt m i e h) ∙ h
 
-  one_new : look one (used m) ≡ some (leaf_e (input_leaf y))
+  one_new : look one (used m) ≡ Some (leaf_e (input_leaf y))
   unfolding one
   one_new = look_made_new m (Input y) sound.room
 
@@ -100,7 +99,7 @@ module _ (m : List ℕ) (sound : Sound m) (s : ℕ) (u : Shape) (large : 3 ≤ d
         chosen = at-s;
         fresh = fresh;
         old = λ i e h. redirected_kept s (used m) one one_sound.room s_used i e (one_old i e h);
-        new = let (e, p, k) = redirected_kept s (used m) one one_sound.room s_used (used m) (leaf_e (input_leaf y)) one_new in p ∙ ap some k;
+        new = let (e, p, k) = redirected_kept s (used m) one one_sound.room s_used (used m) (leaf_e (input_leaf y)) one_new in p ∙ ap Some k;
       }
 
   pub two_used : used two ≡ suc (used m)
@@ -146,7 +145,7 @@ module _ (m : List ℕ) (sound : Sound m) (s : ℕ) (u : Shape) (large : 3 ≤ d
   unfolding two
   two_loose = redirected_loose s (used m) one one_sound.room s_used
 
-  two_turned : (i : ℕ) (e : Expr) → registered m i ≡ true → i ≢ s → look m i ≡ some e → look two i ≡ some (redir_e s (used m) e)
+  two_turned : (i : ℕ) (e : Expr) → registered m i ≡ true → i ≢ s → look m i ≡ Some e → look two i ≡ Some (redir_e s (used m) e)
   unfolding two
   two_turned i e g q h = redirected_turned s (used m) one one_sound.room s_used i e (one_mark i (look_lt m i e h) ∙ g) q (one_old i e h)
 
@@ -216,7 +215,7 @@ module _ (m : List ℕ) (sound : Sound m) (s : ℕ) (u : Shape) (large : 3 ≤ d
       go (no h) (yes k) =
           let e : i ≡ used m = omega (arith, two_used) in
           let (o, l, r, p) = operation_at (look two) u i large (back k) in
-          let q : look two i ≡ some (leaf_e (input_leaf y)) = ap (look two) e ∙ move_two.new in
+          let q : look two i ≡ Some (leaf_e (input_leaf y)) = ap (look two) e ∙ move_two.new in
           absurd (let z : ◌≡◌ {A = ℕ} 0 1 = cc in omega arith)
       go (no h) (no k) = absurd (difference.bare i (omega arith) w)
 
@@ -226,10 +225,10 @@ module _ (m : List ℕ) (sound : Sound m) (s : ℕ) (u : Shape) (large : 3 ≤ d
   row_after = grew_three.row ∙ redirected_row s (used m) one one_sound.room s_used ∙ made_row m (Input y) sound.room
 
   -- the only new input is the one at y
-  pub inputs_after : (i : ℕ) (q : Position) → look three.circuit i ≡ some (leaf_e (input_leaf q)) → (look m i ≡ some (leaf_e (input_leaf q))) ⊎ (q ≡ y)
+  pub inputs_after : (i : ℕ) (q : Position) → look three.circuit i ≡ Some (leaf_e (input_leaf q)) → (look m i ≡ Some (leaf_e (input_leaf q))) ⊎ (q ≡ y)
   unfolding one two
   inputs_after i q h =
-      let k : look one i ≡ some (leaf_e (input_leaf q)) = redirected_leaf s (used m) one one_sound.room s_used i (input_leaf q) (grew_three.inputs i q h) in
+      let k : look one i ≡ Some (leaf_e (input_leaf q)) = redirected_leaf s (used m) one one_sound.room s_used i (input_leaf q) (grew_three.inputs i q h) in
       ⊎_elim (λ z. inl z) (λ z. inr (let e : leaf_e (input_leaf q) ≡ leaf_e (input_leaf y) = z.1 in cc)) (look_made_back m (Input y) sound.room i (leaf_e (input_leaf q)) k)
 
   -- how many nodes it takes, and where they lie
@@ -238,14 +237,14 @@ module _ (m : List ℕ) (sound : Sound m) (s : ℕ) (u : Shape) (large : 3 ≤ d
 
   minus_two : HasMinus m → HasMinus two
   minus_two (j, h, k) =
-      let h₁ : look one j ≡ some (leaf_e (base_leaf minus_one)) = one_old j (leaf_e (base_leaf minus_one)) h in
+      let h₁ : look one j ≡ Some (leaf_e (base_leaf minus_one)) = one_old j (leaf_e (base_leaf minus_one)) h in
       let (e, p, q) = move_two.old j (leaf_e (base_leaf minus_one)) h in
-      (j, p ∙ ap some q, two_mark j other ∙ one_mark j (look_lt m j (leaf_e (base_leaf minus_one)) h) ∙ k)
+      (j, p ∙ ap Some q, two_mark j other ∙ one_mark j (look_lt m j (leaf_e (base_leaf minus_one)) h) ∙ k)
     where
       other : j ≢ s
       other e =
           let (o, l, r, p) = operation_at (look m) u s large at-s in
-          let h' : look m s ≡ some (leaf_e (base_leaf minus_one)) = rw e at h in
+          let h' : look m s ≡ Some (leaf_e (base_leaf minus_one)) = rw e at h in
           let z : ◌≡◌ {A = ℕ} 0 1 = cc in
           omega arith
 

@@ -1,9 +1,9 @@
 -- No used node reads a column that an accepted lowering adds, in either row. Assumes nothing.
+use Rattle.std.specs.Prelude.{Some}
 use Prim.Native.Nat.{ℕ, ◌+◌, ◌<◌}
 use mathlib.Core.Path.{◌≡◌, refl, ap, ◌∙◌}
 use mathlib.Core.Logic.{◌⊎◌, inl, inr, ⊎_elim}
 use mathlib.Core.Bool.{Bool, true, false}
-use mathlib.Core.Option.{some}
 use mathlib.Core.List.{List}
 use native.Mathlib.Omega.{arith}
 use lib.ListN.{length}
@@ -27,7 +27,7 @@ taken T mc ac lent h high i l q e =
     let m : List ℕ = lent.circuit in
     let (f, g) = first_tests T mc ac lent (accepted T mc ac lent h) in
     let t = then_tests_lem T mc ac lent (rw high at g) in
-    columns_start mc ac m lent.roots t.columns i q (look_in m i l ∙ ap (λ (x : Expression). some (expr_of x)) e)
+    columns_start mc ac m lent.roots t.columns i q (look_in m i l ∙ ap (λ (x : Expression). Some (expr_of x)) e)
 
 module _ (T mc ac : ℕ) (lent : Lowering) (h : (lower_call T mc ac lent).number ≡ 0) where
   none_or_high : (too_high T lent.circuit lent.roots ≡ true) ⊎ (length (returned (lower_call T mc ac lent)).main ≡ 0) × (length (returned (lower_call T mc ac lent)).aux ≡ 0)

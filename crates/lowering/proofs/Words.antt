@@ -1,9 +1,9 @@
 -- The lookup that the words say; in a sound circuit the tree by levels is the tree. Assumes nothing.
+use Rattle.std.specs.Prelude.{None, Some}
 use Prim.Native.Nat.{ℕ, zero, suc, ◌+◌, ◌*◌, ◌-◌, ◌/◌, min, ◌≤◌, ◌<◌}
 use mathlib.Core.Path.{◌≡◌, refl, sym, ◌∙◌, ap}
 use mathlib.Core.Logic.{◌≢◌, ⊎_elim}
 use mathlib.Core.Bool.{true, false, ◌||◌, not}
-use mathlib.Core.Option.{none, some}
 use mathlib.Core.List.{List, [], ◌∷◌}
 use native.Mathlib.Decide.{dec_lt, dec_le}
 use native.Mathlib.Omega.{arith}
@@ -24,31 +24,31 @@ use Rattle.lowering.proofs.Bound.{no_more, notin_of}
 
 -- the lookup that the words say
 unfoldable pub look : List ℕ → Look
-look m i = pick (dec_lt i (used m)) (some (expr_of (expression_at m i))) none
+look m i = pick (dec_lt i (used m)) (Some (expr_of (expression_at m i))) None
 
-pub look_in : (m : List ℕ) (i : ℕ) → i < used m → look m i ≡ some (expr_of (expression_at m i))
+pub look_in : (m : List ℕ) (i : ℕ) → i < used m → look m i ≡ Some (expr_of (expression_at m i))
 unfolding look
 look_in m i h = go (dec_lt i (used m))
   where
-    go : (d : Dec (i < used m)) → pick d (some (expr_of (expression_at m i))) none ≡ some (expr_of (expression_at m i))
+    go : (d : Dec (i < used m)) → pick d (Some (expr_of (expression_at m i))) None ≡ Some (expr_of (expression_at m i))
     go (yes p) = refl
     go (no g) = absurd (g h)
 
-pub look_lt : (m : List ℕ) (i : ℕ) (e : Expr) → look m i ≡ some e → i < used m
+pub look_lt : (m : List ℕ) (i : ℕ) (e : Expr) → look m i ≡ Some e → i < used m
 unfolding look
 look_lt m i e h = go (dec_lt i (used m)) h
   where
-    go : (d : Dec (i < used m)) → pick d (some (expr_of (expression_at m i))) none ≡ some e → i < used m
+    go : (d : Dec (i < used m)) → pick d (Some (expr_of (expression_at m i))) None ≡ Some e → i < used m
     go (yes p) h = p
     go (no g) h = absurd (let z : ◌≡◌ {A = ℕ} 0 1 = cc in omega arith)
 
-pub look_is : (m : List ℕ) (i : ℕ) (e : Expr) → look m i ≡ some e → expr_of (expression_at m i) ≡ e
+pub look_is : (m : List ℕ) (i : ℕ) (e : Expr) → look m i ≡ Some e → expr_of (expression_at m i) ≡ e
 look_is m i e h =
-    let k : look m i ≡ some (expr_of (expression_at m i)) = look_in m i (look_lt m i e h) in
+    let k : look m i ≡ Some (expr_of (expression_at m i)) = look_in m i (look_lt m i e h) in
     cc
 
 -- and so what the words themselves say
-pub says : (m : List ℕ) (i : ℕ) (e : Expression) → look m i ≡ some (expr_of e) → expression_at m i ≡ e
+pub says : (m : List ℕ) (i : ℕ) (e : Expression) → look m i ≡ Some (expr_of e) → expression_at m i ≡ e
 says m i e h = sym (back (expression_at m i)) ∙ ap said (look_is m i (expr_of e) h) ∙ back e
   where
     said : Expr → Expression
@@ -74,8 +74,8 @@ pub record Sound (m : List ℕ) : Type 0 where
 
 -- the tree, with the ids in it
 abbrev pub Tru : Look → Tree → ℕ → Type 0
-Tru c (leaf j a) i = (j ≡ i) × (c i ≡ some (leaf_e a))
-Tru c (branch j o a b) i = (j ≡ i) × (l : ℕ) × (r : ℕ) × (c i ≡ some (op_e o l r)) × Tru c a l × Tru c b r
+Tru c (leaf j a) i = (j ≡ i) × (c i ≡ Some (leaf_e a))
+Tru c (branch j o a b) i = (j ≡ i) × (l : ℕ) × (r : ℕ) × (c i ≡ Some (op_e o l r)) × Tru c a l × Tru c b r
 
 pub true_shape : (c : Look) (t : Tree) (i : ℕ) → Tru c t i → Unf c (shape t) i
 true_shape c (leaf j a) i (p, q) = q
@@ -92,13 +92,13 @@ unfolded_true m zero t i h w = absurd (omega (arith, depth_pos t))
 unfolded_true m (suc k) (lf x) i h w = go (expression_at m i) refl
   where
     go : (e : Expression) → expression_at m i ≡ e → Tru (look m) (tree_over i e (unfolded m k)) i
-    go (Base v) p = (refl, look_in m i (look_lt m i (leaf_e x) w) ∙ ap (λ (e : Expression). some (expr_of e)) p)
-    go (Extension v) p = (refl, look_in m i (look_lt m i (leaf_e x) w) ∙ ap (λ (e : Expression). some (expr_of e)) p)
-    go (Challenge v) p = (refl, look_in m i (look_lt m i (leaf_e x) w) ∙ ap (λ (e : Expression). some (expr_of e)) p)
+    go (Base v) p = (refl, look_in m i (look_lt m i (leaf_e x) w) ∙ ap (λ (e : Expression). Some (expr_of e)) p)
+    go (Extension v) p = (refl, look_in m i (look_lt m i (leaf_e x) w) ∙ ap (λ (e : Expression). Some (expr_of e)) p)
+    go (Challenge v) p = (refl, look_in m i (look_lt m i (leaf_e x) w) ∙ ap (λ (e : Expression). Some (expr_of e)) p)
     go (Operation o l r) p =
         let q : expr_of (expression_at m i) ≡ leaf_e x = look_is m i (leaf_e x) w in
         absurd (let z : ◌≡◌ {A = ℕ} 0 1 = cc in omega arith)
-    go (Input v) p = (refl, look_in m i (look_lt m i (leaf_e x) w) ∙ ap (λ (e : Expression). some (expr_of e)) p)
+    go (Input v) p = (refl, look_in m i (look_lt m i (leaf_e x) w) ∙ ap (λ (e : Expression). Some (expr_of e)) p)
 unfolded_true m (suc k) (op o a b) i h (l, r, p, v, w) =
     go (unfolded_true m k a l (omega arith) v) (unfolded_true m k b r (omega arith) w) (expression_at m i) refl
   where
@@ -114,7 +114,7 @@ unfolded_true m (suc k) (op o a b) i h (l, r, p, v, w) =
         (refl, l', r', rw (eo, el, er) at p, rw el at v', rw er at w')
     go v' w' (Input x) q = let z : expr_of (expression_at m i) ≡ op_e o l r = look_is m i (op_e o l r) p in absurd (let z : ◌≡◌ {A = ℕ} 0 1 = cc in omega arith)
 
-module _ (c : Look) (n : ℕ) (short : (i : ℕ) (e : Expr) → c i ≡ some e → i < n) where
+module _ (c : Look) (n : ℕ) (short : (i : ℕ) (e : Expr) → c i ≡ Some e → i < n) where
   -- as many distinct ids as the tree is deep
   record Spine (t : Shape) : Type 0 where
     ids : List ℕ
@@ -122,7 +122,7 @@ module _ (c : Look) (n : ℕ) (short : (i : ℕ) (e : Expr) → c i ≡ some e �
     long : length ids ≡ depth t
     good : (z : ℕ) → In z ids → (z < n) × (u : Shape) × Unf c u z × (depth u ≤ depth t)
 
-  longer : (t a : Shape) (i : ℕ) (e : Expr) → c i ≡ some e → Unf c t i → depth t ≡ suc (depth a) → Spine a → Spine t
+  longer : (t a : Shape) (i : ℕ) (e : Expr) → c i ≡ Some e → Unf c t i → depth t ≡ suc (depth a) → Spine a → Spine t
   longer t a i e p w d sp =
       record {
         ids = i ∷ sp.ids;
@@ -182,13 +182,13 @@ module _ (m : List ℕ) (good : (i : ℕ) → i < used m → bad_node m i ≡ fa
   rises zero i h g = absurd (let z : ◌≡◌ {A = ℕ} 0 1 = cc in omega arith)
   rises (suc k) i h g = go (λ j a b. rises k j a b) (expression_at m i) refl
     where
-      at_i : look m i ≡ some (expr_of (expression_at m i))
+      at_i : look m i ≡ Some (expr_of (expression_at m i))
       at_i = look_in m i h
 
       go : ((j : ℕ) → j < used m → goes_on m k j ≡ false → (t : Shape) × Unf (look m) t j) → (e : Expression) → expression_at m i ≡ e → (t : Shape) × Unf (look m) t i
-      go ih (Base x) q = (lf (base_leaf x), at_i ∙ ap (λ (e : Expression). some (expr_of e)) q)
-      go ih (Extension x) q = (lf (extension_leaf x), at_i ∙ ap (λ (e : Expression). some (expr_of e)) q)
-      go ih (Challenge x) q = (lf (challenge_leaf x), at_i ∙ ap (λ (e : Expression). some (expr_of e)) q)
+      go ih (Base x) q = (lf (base_leaf x), at_i ∙ ap (λ (e : Expression). Some (expr_of e)) q)
+      go ih (Extension x) q = (lf (extension_leaf x), at_i ∙ ap (λ (e : Expression). Some (expr_of e)) q)
+      go ih (Challenge x) q = (lf (challenge_leaf x), at_i ∙ ap (λ (e : Expression). Some (expr_of e)) q)
       go ih (Operation o l r) q =
           let g' : (goes_on m k l || goes_on m k r) ≡ false = rw q at g in
           let (gl, gr) = or-false (goes_on m k l) (goes_on m k r) g' in
@@ -198,8 +198,8 @@ module _ (m : List ℕ) (good : (i : ℕ) → i < used m → bad_node m i ≡ fa
           let (hl, hr) = or-false (leb (used m) l) (leb (used m) r) b₄ in
           let (a, v) = ih l (leb-false (used m) l hl) gl in
           let (b, w) = ih r (leb-false (used m) r hr) gr in
-          (op o a b, (l, r, at_i ∙ ap (λ (e : Expression). some (expr_of e)) q, v, w))
-      go ih (Input x) q = (lf (input_leaf x), at_i ∙ ap (λ (e : Expression). some (expr_of e)) q)
+          (op o a b, (l, r, at_i ∙ ap (λ (e : Expression). Some (expr_of e)) q, v, w))
+      go ih (Input x) q = (lf (input_leaf x), at_i ∙ ap (λ (e : Expression). Some (expr_of e)) q)
 
 -- the parts of a circuit
 pub record Parts (m : List ℕ) : Type 0 where

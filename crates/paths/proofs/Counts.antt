@@ -1,4 +1,5 @@
 -- The counts that go down the order. Assumes nothing.
+use Rattle.std.specs.Prelude.{None, Option, Some}
 use Prim.Native.Nat.{ℕ, suc, ◌+◌, ◌-◌, ◌<◌, ◌≤◌, min}
 use mathlib.Core.Path.{◌≡◌, refl, sym, ap, ◌∙◌}
 use mathlib.Core.Bool.{Bool, true, false}
@@ -9,8 +10,6 @@ use lib.Dec.{eqb, ltb}
 use lib.ListN.{length, set, take, length-set}
 use lib.Seq.{get_or-set_same, get_or-set_other, take-suc, take-length}
 use borrow.Author.Tests.{eqb-true, eqb-false, ltb-true, ltb-false, lt-ltb, le-ltb}
-use Rattle.circuit.specs.declared.check.Step.{Step}
-use Rattle.circuit.specs.declared.check.Step.TheVariants.{Stay, Two}
 use Rattle.layout.specs.Lists.{count}
 use Rattle.layout.specs.Words.{used}
 use Rattle.layout.specs.NotCircuit.{not_circuit, bad_id}
@@ -59,13 +58,13 @@ seeded_next n roots counts after k s l h e = record {
 -- giving
 
 -- both operands have a place
-abbrev pub Reach : ℕ → Step → Type 0
-Reach n Stay = Unit {0}
-Reach n (Two l r) = (l < n) × (r < n)
+abbrev pub Reach : ℕ → Option (ℕ × ℕ) → Type 0
+Reach n None = Unit {0}
+Reach n (Some (l, r)) = (l < n) × (r < n)
 
-gave_at : (s : Step) (counts : List ℕ) (c x : ℕ) → Reach (length counts) s → at counts x ≤ over → at (gave s counts c) x ≡ min over (at counts x + given s x c)
-gave_at Stay counts c x r k = omega arith
-gave_at (Two a b) counts c x r k =
+gave_at : (s : Option (ℕ × ℕ)) (counts : List ℕ) (c x : ℕ) → Reach (length counts) s → at counts x ≤ over → at (gave s counts c) x ≡ min over (at counts x + given s x c)
+gave_at None counts c x r k = omega arith
+gave_at (Some (a, b)) counts c x r k =
     let p = added_at counts a c x r.0 k in
     let q = added_at (added counts a c) b c x (rw length-set r.1) (rw p (omega arith)) in
     q ∙ rw p (omega arith)
@@ -79,16 +78,16 @@ cap_two a b x e w = go (eqb x a) refl (eqb x b) refl
     go false h true k = rw (h, k) (omega arith)
     go false h false k = rw (h, k) (omega arith)
 
-cap_given : (s : Step) (x e w : ℕ) → min over (min over e + given s x (min over w)) ≡ min over (e + given s x w)
-cap_given Stay x e w = omega arith
-cap_given (Two a b) x e w = cap_two a b x e w
+cap_given : (s : Option (ℕ × ℕ)) (x e w : ℕ) → min over (min over e + given s x (min over w)) ≡ min over (e + given s x w)
+cap_given None x e w = omega arith
+cap_given (Some (a, b)) x e w = cap_two a b x e w
 
 -- what giving a node's count does
-module _ (m counts : List ℕ) (i : ℕ) (s : Step) (e : s ≡ step m i) where
-  pub give_stay : s ≡ Stay → counts ≡ gave (step m i) counts (at counts i)
+module _ (m counts : List ℕ) (i : ℕ) (s : Option (ℕ × ℕ)) (e : s ≡ step m i) where
+  pub give_stay : s ≡ None → counts ≡ gave (step m i) counts (at counts i)
   give_stay q = rw (← e, q)
 
-  pub give_two_lem : (l r : ℕ) → s ≡ Two l r → (first second : List ℕ) → first ≡ added counts l (at counts i) → second ≡ added first r (at counts i) → second ≡ gave (step m i) counts (at counts i)
+  pub give_two_lem : (l r : ℕ) → s ≡ Some (l, r) → (first second : List ℕ) → first ≡ added counts l (at counts i) → second ≡ added first r (at counts i) → second ≡ gave (step m i) counts (at counts i)
   give_two_lem l r q first second f g = g ∙ ap (λ (k : List ℕ). added k r (at counts i)) f ∙ rw (← e, q)
 
 -- the loop down the order: what a count lacks is what the nodes at the first q places are still to give
@@ -113,9 +112,9 @@ module _ (m : List ℕ) (valid : not_circuit m ≡ false) (order rank : List ℕ
     };
   }
 
-  reach : (p n : ℕ) → p < used m → used m ≤ n → (s : Step) → step m p ≡ s → Reach n s
-  reach p n h k Stay e = tt
-  reach p n h k (Two a b) e = let (la, lb) = step_below m valid p h a b e in (omega arith, omega arith)
+  reach : (p n : ℕ) → p < used m → used m ≤ n → (s : Option (ℕ × ℕ)) → step m p ≡ s → Reach n s
+  reach p n h k None e = tt
+  reach p n h k (Some (a, b)) e = let (la, lb) = step_below m valid p h a b e in (omega arith, omega arith)
 
   shares_next : (counts : List ℕ) (q : ℕ) → q < used m → used m ≤ length counts → Shares m order roots counts (suc q) → Shares m order roots (gave (step m (at order q)) counts (at counts (at order q))) q
   shares_next counts q l room h = record {

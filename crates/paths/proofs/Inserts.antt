@@ -1,20 +1,21 @@
 -- Rising lists, each word once: how a word is inserted in memory, and that the words alone decide the list. Assumes nothing.
 use Rattle.std.specs.Prelude.{if◌then◌else◌}
+use Rattle.std.specs.List.{copy_within}
+use Rattle.std.proofs.lemmas.Slice.{between_is}
 use Prim.Native.Nat.{ℕ, zero, suc, ◌+◌, ◌-◌, ◌<◌, ◌≤◌}
 use mathlib.Core.Path.{◌≡◌, refl, sym, ap, ◌∙◌}
 use mathlib.Core.Logic.{◌⊎◌, inl, inr, ⊎_elim}
 use mathlib.Core.Bool.{Bool, true, false}
-use mathlib.Core.List.{List, [], ◌∷◌, ◌++◌}
+use mathlib.Core.List.{List, [], ◌∷◌, ◌++◌, append_assoc}
 use native.Mathlib.Omega.{arith}
 use native.Mathlib.Numerals.{add-one}
 use lib.Dec.{ltb, eqb}
-use lib.ListN.{length, set, take, drop, length-append, length-drop, length-set}
-use lib.Seq.{sets, sets-eq, length-take-le, drop-cons, drop-length, take_at, take-suc, take-take, get_or-take, get_or-set_other}
+use lib.ListN.{length, set, take, drop, length-append, length-drop}
+use lib.Seq.{sets, sets-eq, length-take-le, take_at, take-suc, take-take, get_or-take, set-append_seam}
 use borrow.Author.Tests.{lt-ltb, le-ltb, eq-eqb, ne_eqb, ltb-true, ltb-false, eqb-true, eqb-false}
-use Rattle.layout.specs.Lists.{In, insert, written}
+use Rattle.layout.specs.Lists.{In, insert}
 use Rattle.circuit.specs.Rank.{at}
 use Rattle.paths.specs.Rising.{Placed, Words}
-use Rattle.paths.proofs.Written.{written_more}
 
 -- where v stands already
 pub insert_there : (v : ℕ) (xs : List ℕ) (k : ℕ) → k < length xs → ((j : ℕ) → j < k → at xs j < v) → at xs k ≡ v → insert v xs ≡ xs
@@ -76,42 +77,26 @@ module _ (words : List ℕ) (n v k : ℕ) (room : n < length words) (p : Placed 
       let whole : insert v (take n words) ≡ take k words ++ (v ∷ drop k (take n words)) = i ∙ ap (λ (x : List ℕ). x ++ (v ∷ drop k (take n words))) g in
       record { first = f ∙ sym whole; long = ap length whole ∙ a }
 
--- the loop that moves words up
-pub record Moving (words : List ℕ) (n k v : ℕ) (words' : List ℕ) (carry j : ℕ) : Type 0 where
-  pub within : j ≤ n
-  pub still : sets words' j (carry ∷ drop j (take n words)) ≡ sets words k (v ∷ drop k (take n words))
-  pub same : (i : ℕ) → j ≤ i → at words' i ≡ at words i
-  pub long : length words' ≡ length words
-
-pub moving_start : (words : List ℕ) (n k v : ℕ) → k ≤ n → Moving words n k v words v k
-moving_start words n k v l = record { within = l; still = refl; same = λ i h. refl; long = refl }
-
-module _ (words : List ℕ) (n k v : ℕ) (words' : List ℕ) (carry j : ℕ) (room : n < length words) (t : Moving words n k v words' carry j) where
-  pub moving_next : j < n → Moving words n k v (set words' j carry) (at words' j) (j + 1)
-  moving_next l =
-      let e : drop j (take n words) ≡ at words' j ∷ drop (suc j) (take n words) =
-      drop-cons (take n words) j 0 (rw (length-take-le n words (omega arith)) l) ∙ rw (get_or-take n words j 0 l, t.same j (omega arith)) in
-      record {
-        within = omega arith;
-        still = rw (add-one j) (ap (λ (x : List ℕ). sets words' j (carry ∷ x)) (sym e) ∙ t.still);
-        same = λ i h. get_or-set_other words' j i carry 0 (omega arith) ∙ t.same i (omega arith);
-        long = length-set words' j carry ∙ t.long;
-      }
-
-  pub moving_done : j ≡ n → set words' n carry ≡ sets words k (v ∷ drop k (take n words))
-  moving_done e =
-      let d : drop n (take n words) ≡ [] = ap (λ (x : ℕ). drop x (take n words)) (sym (length-take-le n words (omega arith))) ∙ drop-length (take n words) in
-      let s : sets words' n (carry ∷ drop n (take n words)) ≡ sets words k (v ∷ drop k (take n words)) = rw e at t.still in
-      ap (λ (x : List ℕ). sets words' n (carry ∷ x)) (sym d) ∙ s
-
--- the loop that copies words
-
-pub copy_next : (words list : List ℕ) (k : ℕ) → k < length words → k < length list → set (written (take k words) list) k (at words k) ≡ written (take (k + 1) words) list
-copy_next words list k l h =
-    let n : length (take k words) ≡ k = length-take-le k words (omega arith) in
-    ap (λ (i : ℕ). set (written (take k words) list) i (at words k)) (sym n)
-    ∙ written_more (take k words) list (at words k) (rw n h)
-    ∙ ap (λ (x : List ℕ). written x list) (sym (ap (λ (i : ℕ). take i words) (add-one k) ∙ take-suc words k 0 l))
+-- the words from place k on go up by one, and v comes before them
+pub moved_up : (words : List ℕ) (n k v : ℕ) → k ≤ n → n < length words → set (copy_within words k n (k + 1)) k v ≡ sets words k (v ∷ drop k (take n words))
+moved_up words n k v l h =
+    let start : List ℕ = take k words in
+    let moved : List ℕ = drop k (take n words) in
+    let rest : List ℕ = drop (k + 1 + (n - k)) words in
+    let s : length start ≡ k = length-take-le k words (omega arith) in
+    let m : length moved ≡ n - k = length-drop k (take n words) ∙ ap (λ (x : ℕ). x - k) (length-take-le n words (omega arith)) in
+    let e : copy_within words k n (k + 1) ≡ start ++ (at words k ∷ (moved ++ rest)) =
+    ap (λ (x : List ℕ). (x ++ take (n - k) (drop k words)) ++ rest) (ap (λ (i : ℕ). take i words) (add-one k) ∙ take-suc words k 0 (omega arith))
+    ∙ ap (λ (x : List ℕ). ((start ++ (at words k ∷ [])) ++ x) ++ rest) (between_is words k n)
+    ∙ append_assoc (start ++ (at words k ∷ [])) moved rest
+    ∙ append_assoc start (at words k ∷ []) (moved ++ rest) in
+    let w : sets words k (v ∷ moved) ≡ (start ++ (v ∷ moved)) ++ rest =
+    sets-eq (v ∷ moved) words k (omega arith) ∙ ap (λ (i : ℕ). (start ++ (v ∷ moved)) ++ drop i words) (omega arith) in
+    ap (λ (x : List ℕ). set x k v) e
+    ∙ ap (λ (i : ℕ). set (start ++ (at words k ∷ (moved ++ rest))) i v) (sym s)
+    ∙ set-append_seam start (at words k) (moved ++ rest) v
+    ∙ sym (append_assoc start (v ∷ moved) rest)
+    ∙ sym w
 
 -- what stands in a list after an insertion
 

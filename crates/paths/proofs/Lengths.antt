@@ -1,4 +1,5 @@
 -- Tree sizes, from the operands' own, and the length of the walks from some roots. Assumes nothing.
+use Rattle.std.specs.Prelude.{None, Some}
 use Prim.Native.Nat.{ℕ, ◌+◌, ◌<◌, ◌≤◌, min}
 use mathlib.Core.Path.{◌≡◌, refl, sym, ap, ◌∙◌}
 use mathlib.Core.Logic.{⊎_elim}
@@ -7,8 +8,7 @@ use mathlib.Core.List.{List, [], ◌∷◌, ◌++◌, append_assoc}
 use native.Mathlib.Omega.{arith}
 use native.Mathlib.Numerals.{add-one}
 use lib.ListN.{length, set, take, length-append}
-use lib.Seq.{take-suc, take-length, get_or-set_same, get_or-set_other}
-use Rattle.circuit.specs.declared.check.Step.TheVariants.{Stay, Two}
+use lib.Seq.{take-suc, get_or-set_same, get_or-set_other}
 use Rattle.layout.specs.Words.{used}
 use Rattle.layout.specs.NotCircuit.{not_circuit}
 use Rattle.layout.specs.Tree.{tree}
@@ -24,17 +24,17 @@ abbrev pub size : List ℕ → ℕ → ℕ
 size m i = length (walk (tree m i))
 
 module _ (m : List ℕ) (valid : not_circuit m ≡ false) (i : ℕ) (here : i < used m) where
-  pub size_stay : step m i ≡ Stay → size m i ≡ 1
+  pub size_stay : step m i ≡ None → size m i ≡ 1
   size_stay e = ap length (walk_step m valid i here) ∙ rw e
 
-  pub size_two : (l r : ℕ) → step m i ≡ Two l r → size m i ≡ size m l + 1 + size m r
+  pub size_two : (l r : ℕ) → step m i ≡ Some (l, r) → size m i ≡ size m l + 1 + size m r
   size_two l r e = ap length (walk_step m valid i here) ∙ rw (e, length-append (walk (tree m l)) (i ∷ walk (tree m r))) (omega arith)
 
   -- from saturated sizes
-  pub size_one : (top answer : ℕ) → step m i ≡ Stay → answer ≡ min top 1 → answer ≡ min top (size m i)
+  pub size_one : (top answer : ℕ) → step m i ≡ None → answer ≡ min top 1 → answer ≡ min top (size m i)
   size_one top answer e h = h ∙ ap (min top) (sym (size_stay e))
 
-  pub size_sum : (top answer l r a b : ℕ) → step m i ≡ Two l r → (a ≡ min top (size m l)) × (b ≡ min top (size m r)) → answer ≡ min top (a + 1 + b) → answer ≡ min top (size m i)
+  pub size_sum : (top answer l r a b : ℕ) → step m i ≡ Some (l, r) → (a ≡ min top (size m l)) × (b ≡ min top (size m r)) → answer ≡ min top (a + 1 + b) → answer ≡ min top (size m i)
   size_sum top answer l r a b e (p, q) h = let s = size_two l r e in omega arith
 
 -- the loop up the order
@@ -42,15 +42,12 @@ module _ (m : List ℕ) (valid : not_circuit m ≡ false) (i : ℕ) (here : i < 
 pub record SizesTo (m order sizes : List ℕ) (top q : ℕ) : Type 0 where
   pub told : (p : ℕ) → p < q → at sizes (at order p) ≡ min top (size m (at order p))
 
-pub sizes_start : (m order sizes : List ℕ) (top : ℕ) → SizesTo m order sizes top 0
-sizes_start m order sizes top = record { told = λ p l. absurd (omega arith) }
-
 module _ (m : List ℕ) (valid : not_circuit m ≡ false) (order rank : List ℕ) (sorted : Sorted m order rank) (sizes : List ℕ) (top q : ℕ) (so_far : SizesTo m order sizes top q) where
   -- a node that comes before has its size
   before : (j : ℕ) → j < used m → at rank j < q → at sizes j ≡ min top (size m j)
   before j l b = rw (sorted.order_rank j l) at (so_far.told (at rank j) b)
 
-  pub sizes_operands : q < used m → (l r : ℕ) → step m (at order q) ≡ Two l r → (at sizes l ≡ min top (size m l)) × (at sizes r ≡ min top (size m r))
+  pub sizes_operands : q < used m → (l r : ℕ) → step m (at order q) ≡ Some (l, r) → (at sizes l ≡ min top (size m l)) × (at sizes r ≡ min top (size m r))
   sizes_operands h l r e =
       let here = sorted.order_below q h in
       let (fl, fr) = ranks_fall m valid order rank sorted (at order q) here l r e in
@@ -85,6 +82,3 @@ pub sum_next : (m roots : List ℕ) (top k sum next : ℕ) → k < length roots 
 unfolding walks
 sum_next m roots top k sum next l e h =
     rw (add-one k, take-suc roots k 0 l, walks_append m (take k roots) (at roots k ∷ []), length-append (walks m (take k roots)) (walk (tree m (at roots k)) ++ []), length-append (walk (tree m (at roots k))) []) (omega arith)
-
-pub sum_done : (m roots : List ℕ) (top k sum : ℕ) → k ≡ length roots → sum ≡ min top (length (walks m (take k roots))) → sum ≡ min top (length (walks m roots))
-sum_done m roots top k sum e h = h ∙ rw (e, take-length roots)

@@ -10,4 +10,3 @@ pub mod Stacks
 pub mod Inserts
 pub mod Gathers
 pub mod Calls
-pub mod Unique

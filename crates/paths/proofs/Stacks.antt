@@ -1,4 +1,5 @@
 -- The stack of a walk: what is still to come, and how deep it grows. Assumes nothing.
+use Rattle.std.specs.Prelude.{None, Option, Some}
 use Prim.Native.Nat.{ℕ, zero, suc, ◌+◌, ◌-◌, ◌<◌, ◌≤◌, max}
 use mathlib.Core.Path.{◌≡◌, refl, sym, ap, ◌∙◌}
 use mathlib.Core.Logic.{⊎_elim}
@@ -10,8 +11,6 @@ use lib.ListN.{length, set, drop, length-set, length-append}
 use lib.Seq.{sets, drop-cons, drop-set-lt, drop-length, get_or-set_same, get_or-set_other}
 use Rattle.layout.specs.declared.node.Expression.{Expression}
 use Rattle.layout.specs.declared.node.Expression.TheVariants.{Base, Extension, Challenge, Operation, Input}
-use Rattle.circuit.specs.declared.check.Step.{Step}
-use Rattle.circuit.specs.declared.check.Step.TheVariants.{Stay, Two}
 use Rattle.layout.specs.Words.{used, expression_at}
 use Rattle.layout.specs.NotCircuit.{not_circuit, goes_on}
 use Rattle.layout.specs.Tree.{Tree, tree_over, unfolded, tree}
@@ -29,9 +28,9 @@ use Rattle.paths.proofs.Lengths.{size}
 
 -- heights
 
-abbrev height_over : Step → (ℕ → ℕ) → ℕ
-height_over Stay f = 1
-height_over (Two l r) f = 1 + max (f l) (f r)
+abbrev height_over : Option (ℕ × ℕ) → (ℕ → ℕ) → ℕ
+height_over None f = 1
+height_over (Some (l, r)) f = 1 + max (f l) (f r)
 
 over_height : (i : ℕ) (e : Expression) (f : ℕ → Tree) → height (tree_over i e f) ≡ height_over (step_of e) (λ j. height (f j))
 unfolding height
@@ -64,7 +63,7 @@ module _ (m : List ℕ) (valid : not_circuit m ≡ false) where
   root-level i l = record { here = l; levels = let h = levels_bound m (used m) i (valid_ends m valid i l) in omega arith }
 
   -- operands are a level below
-  pub operand_levels : (i depth l r : ℕ) → Level m i depth → step m i ≡ Two l r → Level m l (depth + 1) × Level m r (depth + 1)
+  pub operand_levels : (i depth l r : ℕ) → Level m i depth → step m i ≡ Some (l, r) → Level m l (depth + 1) × Level m r (depth + 1)
   operand_levels i depth l r v e =
       let (bl, br) = step_below m valid i v.here l r e in
       let h : height (tree m i) ≡ 1 + max (height (tree m l)) (height (tree m r)) = ap height (tree_fixed m valid i v.here) ∙ over_height i (expression_at m i) (tree m) ∙ rw e in
@@ -137,7 +136,7 @@ module _ (m : List ℕ) (valid : not_circuit m ≡ false) (before : List ℕ) (i
   fits : used m ≤ length stack
   fits = let e = line.long in omega arith
 
-  pub lineage_left : (l r : ℕ) → step m node ≡ Two l r → Lineage m before i depth (set stack top node) l (top + 1)
+  pub lineage_left : (l r : ℕ) → step m node ≡ Some (l, r) → Lineage m before i depth (set stack top node) l (top + 1)
   lineage_left l r e = record {
     level = (operand_levels m valid node top l r line.level e).0;
     stacked = push_stacked m stack node top fits line.level line.stacked;
@@ -151,7 +150,7 @@ module _ (m : List ℕ) (valid : not_circuit m ≡ false) (before : List ℕ) (i
     long = length-set stack top node ∙ line.long;
   }
 
-  pub lineage_done : step m node ≡ Stay → Descended m before (set stack top node) (walk (tree m i)) depth (top + 1)
+  pub lineage_done : step m node ≡ None → Descended m before (set stack top node) (walk (tree m i)) depth (top + 1)
   lineage_done e = record {
     stacked = push_stacked m stack node top fits line.level line.stacked;
     comes =
@@ -163,13 +162,13 @@ module _ (m : List ℕ) (valid : not_circuit m ≡ false) (before : List ℕ) (i
 
 -- after a node, its right subtree
 
-pub right_none : (m stack : List ℕ) (i depth : ℕ) → Descending m stack i depth → step m i ≡ Stay → Descended m stack stack (right_walk m (step m i)) depth depth
+pub right_none : (m stack : List ℕ) (i depth : ℕ) → Descending m stack i depth → step m i ≡ None → Descended m stack stack (right_walk m (step m i)) depth depth
 right_none m stack i depth d e = record { stacked = d.stacked; comes = rw e; beyond = refl }
 
-pub right_some : (m stack after : List ℕ) (i depth l r answer : ℕ) → step m i ≡ Two l r → Descended m stack after (walk (tree m r)) depth answer → Descended m stack after (right_walk m (step m i)) depth answer
+pub right_some : (m stack after : List ℕ) (i depth l r answer : ℕ) → step m i ≡ Some (l, r) → Descended m stack after (walk (tree m r)) depth answer → Descended m stack after (right_walk m (step m i)) depth answer
 right_some m stack after i depth l r answer e d = rw e d
 
-pub right_descends : (m stack : List ℕ) (i depth l r : ℕ) → Descending m stack i depth → step m i ≡ Two l r → Descending m stack r depth
+pub right_descends : (m stack : List ℕ) (i depth l r : ℕ) → Descending m stack i depth → step m i ≡ Some (l, r) → Descending m stack r depth
 right_descends m stack i depth l r d e = record {
   valid = d.valid;
   room = d.room;
@@ -274,9 +273,6 @@ pub record Rooting (m roots list stack list' stack' : List ℕ) (place k : ℕ) 
   pub beyond : drop (used m) stack' ≡ drop (used m) stack
   pub list_long : length list' ≡ length list
   pub stack_long : length stack' ≡ length stack
-
-pub rooting_start : (m roots list stack : List ℕ) → Rooting m roots list stack list stack 0 0
-rooting_start m roots list stack = record { listed = refl; counted = omega arith; beyond = refl; list_long = refl; stack_long = refl }
 
 module _ (m roots list stack : List ℕ) (w : WalkingAll m roots list stack) (list' stack' : List ℕ) (place k : ℕ) (t : Rooting m roots list stack list' stack' place k) where
   module _ (l : k < length roots) where

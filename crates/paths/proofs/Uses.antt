@@ -1,4 +1,5 @@
 -- The paths to a node from the paths to those that use it, once for each use. Assumes nothing.
+use Rattle.std.specs.Prelude.{None, Option, Some}
 use Prim.Native.Nat.{ℕ, zero, suc, ◌+◌, ◌<◌, ◌≤◌}
 use mathlib.Core.Path.{◌≡◌, refl, sym, ap, ◌∙◌}
 use mathlib.Core.Logic.{◌≢◌}
@@ -6,8 +7,6 @@ use mathlib.Core.Bool.{Bool, true, false}
 use mathlib.Core.List.{List, [], ◌∷◌}
 use native.Mathlib.Omega.{arith}
 use lib.Dec.{eqb}
-use Rattle.circuit.specs.declared.check.Step.{Step}
-use Rattle.circuit.specs.declared.check.Step.TheVariants.{Stay, Two}
 use Rattle.layout.specs.Lists.{count}
 use Rattle.layout.specs.Words.{used, expression_at}
 use Rattle.layout.specs.NotCircuit.{not_circuit, bad_id}
@@ -17,7 +16,7 @@ use Rattle.paths.proofs.Sums.{sum, sum_same, sum_none, sum-add, sum_one}
 use Rattle.paths.proofs.Walks.{hit, hit_same, hit_other, both, step_two, from, step, paths_none, paths_more, roots_first, from_step, step_below}
 
 -- what x gets of c from a node that uses it: c for each use
-abbrev pub given : Step → ℕ → ℕ → ℕ
+abbrev pub given : Option (ℕ × ℕ) → ℕ → ℕ → ℕ
 given s x c = both s (λ j. hit x j c)
 
 hit_split : (x j c d : ℕ) → hit x j (c + d) ≡ hit x j c + hit x j d
@@ -34,13 +33,13 @@ hit_none x j = go (eqb x j) refl
     go true e = rw e
     go false e = rw e
 
-given_none : (s : Step) (x : ℕ) → given s x 0 ≡ 0
-given_none Stay x = refl
-given_none (Two l r) x = rw (hit_none x l, hit_none x r)
+given_none : (s : Option (ℕ × ℕ)) (x : ℕ) → given s x 0 ≡ 0
+given_none None x = refl
+given_none (Some (l, r)) x = rw (hit_none x l, hit_none x r)
 
-given_add : (s : Step) (x c d : ℕ) → given s x (c + d) ≡ given s x c + given s x d
-given_add Stay x c d = refl
-given_add (Two l r) x c d = rw (hit_split x l c d, hit_split x r c d) (omega arith)
+given_add : (s : Option (ℕ × ℕ)) (x c d : ℕ) → given s x (c + d) ≡ given s x c + given s x d
+given_add None x c d = refl
+given_add (Some (l, r)) x c d = rw (hit_split x l c d, hit_split x r c d) (omega arith)
 
 -- what x gets from the first n places of an order, where each node p has w p
 abbrev pub into : List ℕ → List ℕ → ℕ → (ℕ → ℕ) → ℕ → ℕ
@@ -60,16 +59,16 @@ module _ (m order : List ℕ) (x : ℕ) where
 
 module _ (m : List ℕ) (valid : not_circuit m ≡ false) (order rank : List ℕ) (sorted : Sorted m order rank) where
   -- the operands of a node come before it
-  pub ranks_fall : (p : ℕ) → p < used m → (l r : ℕ) → step m p ≡ Two l r → (at rank l < at rank p) × (at rank r < at rank p)
+  pub ranks_fall : (p : ℕ) → p < used m → (l r : ℕ) → step m p ≡ Some (l, r) → (at rank l < at rank p) × (at rank r < at rank p)
   ranks_fall p h l r e = let (o, q) = step_two (expression_at m p) l r e in (sorted.left_first p o l r h q, sorted.right_first p o l r h q)
 
   -- a node at place q gives nothing to one at or after its own place
   pub unused : (q x w : ℕ) → q < used m → x < used m → q ≤ at rank x → given (step m (at order q)) x w ≡ 0
   unused q x w l h le = go (step m (at order q)) refl
     where
-      go : (s : Step) → step m (at order q) ≡ s → given (step m (at order q)) x w ≡ 0
-      go Stay e = rw e
-      go (Two a b) e =
+      go : (s : Option (ℕ × ℕ)) → step m (at order q) ≡ s → given (step m (at order q)) x w ≡ 0
+      go None e = rw e
+      go (Some (a, b)) e =
           let (fa, fb) = ranks_fall (at order q) (sorted.order_below q l) a b e in
           let r = sorted.rank_order q l in
           let na : x ≢ a = λ y. let z = ap (at rank) y in omega arith in
@@ -87,13 +86,13 @@ module _ (m : List ℕ) (valid : not_circuit m ≡ false) (order rank : List ℕ
   uses_step zero h x l k = absurd (omega arith)
   uses_step (suc f) h x l k = go (step m h) refl (uses_step f)
     where
-      go : (s : Step) → step m h ≡ s → ((g y : ℕ) → g < used m → at rank g < f → from m g y ≡ hit y g 1 + into m order y (from m g) (used m)) → from m h x ≡ hit x h 1 + into m order x (from m h) (used m)
-      go Stay e rest =
+      go : (s : Option (ℕ × ℕ)) → step m h ≡ s → ((g y : ℕ) → g < used m → at rank g < f → from m g y ≡ hit y g 1 + into m order y (from m g) (used m)) → from m h x ≡ hit x h 1 + into m order x (from m h) (used m)
+      go None e rest =
           let base : (y : ℕ) → from m h y ≡ hit y h 1 + 0 = λ y. rw e at (from_step m valid h l y) in
           let t = into_same m order x (from m h) (λ p. hit p h 1) (used m) (λ p. base p ∙ omega arith) ∙ own h x l in
           let z : given (step m h) x 1 ≡ 0 = rw e in
           rw (t, z) (base x)
-      go (Two a b) e rest =
+      go (Some (a, b)) e rest =
           let base : (y : ℕ) → from m h y ≡ hit y h 1 + (from m a y + from m b y) = λ y. rw e at (from_step m valid h l y) in
           let (la, lb) = step_below m valid h l a b e in
           let (ra, rb) = ranks_fall h l a b e in

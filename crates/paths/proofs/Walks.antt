@@ -1,29 +1,29 @@
 -- A node's walk from its operands' walks, and how often a node stands in it. Assumes nothing.
-use Rattle.std.specs.Prelude.{if◌then◌else◌}
+use Rattle.std.specs.Prelude.{if◌then◌else◌, Option, Some, None}
+use Rattle.std.specs.List.{list_any}
 use Prim.Native.Nat.{ℕ, zero, suc, ◌+◌, ◌<◌, ◌≤◌}
-use mathlib.Core.Path.{◌≡◌, refl, ap, ◌∙◌}
+use mathlib.Core.Path.{◌≡◌, refl, sym, ap, ◌∙◌, ap₂}
 use mathlib.Core.Logic.{◌≢◌}
-use mathlib.Core.Bool.{Bool, true, false}
+use mathlib.Core.Bool.{Bool, true, false, ◌||◌}
 use mathlib.Core.List.{List, [], ◌∷◌, ◌++◌}
 use native.Mathlib.Omega.{arith}
 use lib.Dec.{eqb, leb}
-use lib.ListN.{length}
-use borrow.Author.Tests.{eq-eqb, ne_eqb, le-leb, lt-leb, leb-false}
+use lib.ListN.{length, take}
+use lib.Seq.{take-suc}
+use borrow.Author.Tests.{eq-eqb, ne_eqb, leb-false}
 use Rattle.layout.specs.declared.node.Op.{Op}
 use Rattle.layout.specs.declared.node.Expression.{Expression}
 use Rattle.layout.specs.declared.node.Expression.TheVariants.{Base, Extension, Challenge, Operation, Input}
-use Rattle.circuit.specs.declared.check.Step.{Step}
-use Rattle.circuit.specs.declared.check.Step.TheVariants.{Stay, Two}
-use Rattle.layout.specs.Lists.{count, any}
+use Rattle.layout.specs.Lists.{up_to, count, any}
 use Rattle.layout.specs.Words.{used, expression_at}
 use Rattle.layout.specs.NotCircuit.{not_circuit, bad_id}
 use Rattle.layout.specs.Tree.{Tree, tree_over, tree}
+use Rattle.std.proofs.lemmas.Option.{some_pair_parts}
 use Rattle.circuit.specs.Walk.{step_of}
 use Rattle.circuit.specs.Rank.{at}
 use Rattle.layout.proofs.Trees.{tree_fixed}
 use Rattle.layout.proofs.Valid.{valid_operands}
-use Rattle.layout.proofs.Tests.{neither, or-false, or_right}
-use Rattle.layout.proofs.Lists.{or_left}
+use Rattle.layout.proofs.Tests.{neither, any-more, any_start}
 use Rattle.walking.specs.Paths.{walk, walks, paths}
 
 -- v if j is x
@@ -37,9 +37,9 @@ pub hit_other : (x j v : ℕ) → x ≢ j → hit x j v ≡ 0
 hit_other x j v n = rw (ne_eqb x j n)
 
 -- the sum over both operands
-abbrev pub both : Step → (ℕ → ℕ) → ℕ
-both Stay f = 0
-both (Two l r) f = f l + f r
+abbrev pub both : Option (ℕ × ℕ) → (ℕ → ℕ) → ℕ
+both None f = 0
+both (Some (l, r)) f = f l + f r
 
 pub count-append : (x : ℕ) (xs ys : List ℕ) → count x (xs ++ ys) ≡ count x xs + count x ys
 unfolding count
@@ -47,17 +47,17 @@ count-append x [] ys = omega arith
 count-append x (y ∷ xs) ys = rw (count-append x xs ys) (omega arith)
 
 -- what a node does at its place, and its operation
-pub step_two : (e : Expression) (l r : ℕ) → step_of e ≡ Two l r → (o : Op) × (e ≡ Operation o l r)
+pub step_two : (e : Expression) (l r : ℕ) → step_of e ≡ Some (l, r) → (o : Op) × (e ≡ Operation o l r)
 step_two (Base w) l r h = let z : ◌≡◌ {A = ℕ} 0 1 = cc in absurd (omega arith)
 step_two (Extension w) l r h = let z : ◌≡◌ {A = ℕ} 0 1 = cc in absurd (omega arith)
 step_two (Challenge w) l r h = let z : ◌≡◌ {A = ℕ} 0 1 = cc in absurd (omega arith)
-step_two (Operation o a b) l r h = let p : a ≡ l = cc in let q : b ≡ r = cc in (o, rw (p, q))
+step_two (Operation o a b) l r h = let p = some_pair_parts _ _ _ _ h in (o, ap₂ (Operation o) p.0 p.1)
 step_two (Input w) l r h = let z : ◌≡◌ {A = ℕ} 0 1 = cc in absurd (omega arith)
 
 -- a node's walk, from its operands'
-abbrev pub walk_over : ℕ → Step → (ℕ → List ℕ) → List ℕ
-walk_over i Stay f = i ∷ []
-walk_over i (Two l r) f = f l ++ (i ∷ f r)
+abbrev pub walk_over : ℕ → Option (ℕ × ℕ) → (ℕ → List ℕ) → List ℕ
+walk_over i None f = i ∷ []
+walk_over i (Some (l, r)) f = f l ++ (i ∷ f r)
 
 over_walk : (i : ℕ) (e : Expression) (f : ℕ → Tree) → walk (tree_over i e f) ≡ walk_over i (step_of e) (λ j. walk (f j))
 unfolding walk
@@ -67,17 +67,17 @@ over_walk i (Challenge w) f = refl
 over_walk i (Operation o l r) f = refl
 over_walk i (Input w) f = refl
 
-walk_count : (i : ℕ) (s : Step) (f : ℕ → List ℕ) (x : ℕ) → count x (walk_over i s f) ≡ hit x i 1 + both s (λ j. count x (f j))
+walk_count : (i : ℕ) (s : Option (ℕ × ℕ)) (f : ℕ → List ℕ) (x : ℕ) → count x (walk_over i s f) ≡ hit x i 1 + both s (λ j. count x (f j))
 unfolding count
-walk_count i Stay f x = refl
-walk_count i (Two l r) f x = rw (count-append x (f l) (i ∷ f r)) (omega arith)
+walk_count i None f x = refl
+walk_count i (Some (l, r)) f x = rw (count-append x (f l) (i ∷ f r)) (omega arith)
 
 -- the paths from node p to node x
 abbrev pub from : List ℕ → ℕ → ℕ → ℕ
 from m p x = count x (walk (tree m p))
 
 -- what node p does
-abbrev pub step : List ℕ → ℕ → Step
+abbrev pub step : List ℕ → ℕ → Option (ℕ × ℕ)
 step m p = step_of (expression_at m p)
 
 -- the paths from some roots are those from the first and those from the others
@@ -103,25 +103,33 @@ roots_below m [] h k l = absurd (omega arith)
 roots_below m (r ∷ roots) h zero l = (roots_first m r roots h).0
 roots_below m (r ∷ roots) h (suc k) l = roots_below m roots (roots_first m r roots h).1 k (omega arith)
 
--- a test over a list, place by place
-pub none_passes : (f : ℕ → Bool) (xs : List ℕ) → ((k : ℕ) → k < length xs → f (at xs k) ≡ false) → any f xs ≡ false
+-- a test over a list, as the library says it
+pub any_listed : (f : ℕ → Bool) (xs : List ℕ) → list_any f xs ≡ any f xs
 unfolding any
-none_passes f [] h = refl
-none_passes f (x ∷ xs) h = or-false (f x) (any f xs) (h 0 (omega arith)) (none_passes f xs (λ k l. h (suc k) (omega arith)))
+any_listed f [] = refl
+any_listed f (x ∷ xs) = ap (λ (b : Bool). f x || b) (any_listed f xs)
 
-pub one_passes : (f : ℕ → Bool) (xs : List ℕ) (k : ℕ) → k < length xs → f (at xs k) ≡ true → any f xs ≡ true
+any_last : (f : ℕ → Bool) (xs : List ℕ) (x : ℕ) → any f (xs ++ (x ∷ [])) ≡ (any f xs || f x)
 unfolding any
-one_passes f [] k l h = absurd (omega arith)
-one_passes f (x ∷ xs) zero l h = or_left (f x) (any f xs) h
-one_passes f (x ∷ xs) (suc k) l h = or_right (f x) (any f xs) (one_passes f xs k (omega arith) h)
+any_last f [] x = neutral (f x)
+  where
+    neutral : (b : Bool) → (b || false) ≡ b
+    neutral true = refl
+    neutral false = refl
+any_last f (y ∷ ys) x = rw (any_last f ys x) (grouped (f y) (any f ys) (f x))
+  where
+    grouped : (a b c : Bool) → (a || (b || c)) ≡ ((a || b) || c)
+    grouped true b c = refl
+    grouped false b c = refl
 
-pub ids_good : (m ids : List ℕ) → ((k : ℕ) → k < length ids → at ids k < used m) → bad_id m ids ≡ false
-unfolding bad_id
-ids_good m ids h = none_passes (leb (used m)) ids (λ k l. lt-leb (used m) (at ids k) (h k l))
-
-pub ids_bad : (m ids : List ℕ) (k : ℕ) → k < length ids → used m ≤ at ids k → bad_id m ids ≡ true
-unfolding bad_id
-ids_bad m ids k l h = one_passes (leb (used m)) ids k l (le-leb (used m) (at ids k) h)
+-- over the first n places
+pub any_places : (f : ℕ → Bool) (xs : List ℕ) (n : ℕ) → n ≤ length xs → any f (take n xs) ≡ any (λ i. f (at xs i)) (up_to n)
+unfolding any
+any_places f xs zero l = sym (any_start (λ i. f (at xs i)))
+any_places f xs (suc n) l =
+    rw (take-suc xs n 0 (omega arith)) (any_last f (take n xs) (at xs n))
+    ∙ ap (λ (b : Bool). b || f (at xs n)) (any_places f xs n (omega arith))
+    ∙ sym (any-more (λ i. f (at xs i)) n)
 
 module _ (m : List ℕ) (valid : not_circuit m ≡ false) where
   pub walk_step : (p : ℕ) → p < used m → walk (tree m p) ≡ walk_over p (step m p) (λ j. walk (tree m j))
@@ -132,5 +140,5 @@ module _ (m : List ℕ) (valid : not_circuit m ≡ false) where
   from_step p l x = ap (count x) (walk_step p l) ∙ walk_count p (step m p) (λ j. walk (tree m j)) x
 
   -- operands are nodes
-  pub step_below : (p : ℕ) → p < used m → (l r : ℕ) → step m p ≡ Two l r → (l < used m) × (r < used m)
+  pub step_below : (p : ℕ) → p < used m → (l r : ℕ) → step m p ≡ Some (l, r) → (l < used m) × (r < used m)
   step_below p h l r e = let (o, q) = step_two (expression_at m p) l r e in valid_operands m valid p h o l r q

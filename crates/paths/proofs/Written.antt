@@ -5,7 +5,7 @@ use mathlib.Core.List.{List, [], ◌∷◌, ◌++◌, append_assoc}
 use native.Mathlib.Nat.{add-zero, add-suc, suc-add}
 use native.Mathlib.Numerals.{add-one}
 use native.Mathlib.Omega.{arith}
-use lib.ListN.{length, get_or, set, drop, replicate, length-append, length-replicate, get_or-replicate, replicate-append-replicate, get_or-append}
+use lib.ListN.{length, get_or, set, drop, replicate, length-append, length-replicate, get_or-replicate, get_or-append}
 use lib.Seq.{sets, sets-eq, drop-cons, set-append_seam}
 use Rattle.layout.specs.Lists.{written}
 use Rattle.circuit.specs.Rank.{at}
@@ -22,6 +22,11 @@ written_more xs l v h =
     ∙ set-append_seam xs (get_or l (length xs) 0) (drop (suc (length xs)) l) v
     ∙ rw (append_assoc xs (v ∷ []) (drop (length (xs ++ (v ∷ []))) l), length-append xs (v ∷ []), add-one (length xs))
 
+-- stored at once in the first places
+pub written_first : (xs l : List ℕ) (n : ℕ) → length xs ≡ n → xs ++ drop n l ≡ written xs l
+unfolding written
+written_first xs l n e = ap (λ (k : ℕ). xs ++ drop k l) (sym e)
+
 -- what stands there
 pub written_at : (xs l : List ℕ) (i : ℕ) → i < length xs → at (written xs l) i ≡ at xs i
 unfolding written
@@ -33,11 +38,6 @@ unfolding written
 written_same xs l k e = ap (λ (t : List ℕ). xs ++ t) e
 
 -- zeros
-
-pub zeros_next : (l : List ℕ) (i : ℕ) → i < length l → set (written (replicate i 0) l) i 0 ≡ written (replicate (i + 1) 0) l
-zeros_next l i h =
-    let n = length-replicate {A = ℕ} i 0 in
-    ap (λ (j : ℕ). set (written (replicate i 0) l) j 0) (sym n) ∙ written_more (replicate i 0) l 0 (rw n h) ∙ ap (λ (t : List ℕ). written t l) (replicate-append-replicate i 1 0)
 
 pub zeros_at : (l : List ℕ) (n i : ℕ) → i < n → at (written (replicate n 0) l) i ≡ 0
 zeros_at l n i h = written_at (replicate n 0) l i (rw (length-replicate {A = ℕ} n 0) h) ∙ get_or-replicate n i 0 0 h

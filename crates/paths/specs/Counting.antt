@@ -1,7 +1,5 @@
 -- Path counts in memory: what the inner call that counts asks and answers. Assumes nothing.
-use Rattle.std.specs.Prelude.{ℕ, ◌+◌, ◌<◌, ◌≤◌, min, ◌≡◌, false, List, length, set, take}
-use Rattle.circuit.specs.declared.check.Step.{Step}
-use Rattle.circuit.specs.declared.check.Step.TheVariants.{Stay, Two}
+use Rattle.std.specs.Prelude.{ℕ, ◌+◌, ◌<◌, ◌≤◌, min, ◌≡◌, false, List, length, set, take, None, Option, Some}
 use Rattle.layout.specs.Lists.{count}
 use Rattle.layout.specs.Words.{used}
 use Rattle.layout.specs.NotCircuit.{not_circuit, bad_id}
@@ -38,9 +36,9 @@ abbrev pub added : List ℕ → ℕ → ℕ → List ℕ
 added counts i c = set counts i (min over (at counts i + c))
 
 -- c more for both operands, twice if they are one node
-abbrev pub gave : Step → List ℕ → ℕ → List ℕ
-gave Stay counts c = counts
-gave (Two l r) counts c = added (added counts l c) r c
+abbrev pub gave : Option (ℕ × ℕ) → List ℕ → ℕ → List ℕ
+gave None counts c = counts
+gave (Some (l, r)) counts c = added (added counts l c) r c
 
 -- a node of a circuit, its count within what is told apart
 pub record Giving (m counts : List ℕ) (i : ℕ) : Type 0 where

@@ -1,8 +1,6 @@
 -- The walk with a stack: what its inner calls ask and answer. Assumes nothing.
-use Rattle.std.specs.Prelude.{ℕ, zero, suc, ◌+◌, ◌<◌, ◌≤◌, min, max, ◌≡◌, false, List, [], ◌∷◌, ◌++◌, length, drop}
+use Rattle.std.specs.Prelude.{ℕ, zero, suc, ◌+◌, ◌<◌, ◌≤◌, min, max, ◌≡◌, false, List, [], ◌∷◌, ◌++◌, length, drop, None, Option, Some}
 use Rattle.std.proofs.lemmas.List.Edits.{sets}
-use Rattle.circuit.specs.declared.check.Step.{Step}
-use Rattle.circuit.specs.declared.check.Step.TheVariants.{Stay, Two}
 use Rattle.layout.specs.Words.{used, expression_at}
 use Rattle.layout.specs.NotCircuit.{not_circuit, bad_id}
 use Rattle.layout.specs.Tree.{Tree, leaf, branch, tree}
@@ -28,7 +26,7 @@ pub record Sizing (m sizes : List ℕ) (top i : ℕ) : Type 0 where
   pub here : i < used m
   pub room : 4096 ≤ length sizes
   pub small : top ≤ 1152921504606846976
-  pub operands : (l r : ℕ) → step_of (expression_at m i) ≡ Two l r → (at sizes l ≡ min top (length (walk (tree m l)))) × (at sizes r ≡ min top (length (walk (tree m r))))
+  pub operands : (l r : ℕ) → step_of (expression_at m i) ≡ Some (l, r) → (at sizes l ≡ min top (length (walk (tree m l)))) × (at sizes r ≡ min top (length (walk (tree m r))))
 
 pub record Summing (m roots sizes : List ℕ) (top : ℕ) : Type 0 where
   pub sizes_told : Sizes m sizes top
@@ -50,9 +48,9 @@ height (leaf i a) = 1
 height (branch i o l r) = 1 + max (height l) (height r)
 
 -- what comes after a node in its walk: the right subtree
-abbrev pub right_walk : List ℕ → Step → List ℕ
-right_walk m Stay = []
-right_walk m (Two l r) = walk (tree m r)
+abbrev pub right_walk : List ℕ → Option (ℕ × ℕ) → List ℕ
+right_walk m None = []
+right_walk m (Some (l, r)) = walk (tree m r)
 
 -- what is still to come: each node on the stack, from the top, and its right subtree
 unfoldable pub pending : List ℕ → List ℕ → ℕ → List ℕ

@@ -6,7 +6,7 @@ ghost use Rattle.circuit.specs.Walk.{step_of};
 ghost use Rattle.circuit.specs.Rank.{at};
 ghost use Rattle.paths.specs.Counting.{over, Countable, PathCounts, Seedable, Seeded, added, Giving, gave};
 
-use circuit::check::{Step, step_at};
+use circuit::check::step_at;
 
 // One above the bound of path counts.
 pub const OVER: u64 = 4294967296;
@@ -34,8 +34,8 @@ fn give(m: &[u64], counts: &mut [u64], i: u64)
     let c = counts[node];
     let s = step_at(m, i);
     match s {
-        Step::Stay => {}
-        Step::Two(l, r) => {
+        None => {}
+        Some((l, r)) => {
             add_at(counts, l, c);
             add_at(counts, r, c);
         }
@@ -47,12 +47,7 @@ pub(crate) fn clear(counts: &mut [u64], n: u64)
     requires { n ≤ length counts.old }
     ensures { counts.new ≡ written (replicate n 0) counts.old }
 {
-    let mut i: u64 = 0;
-    while i < n {
-        let node = i as usize;
-        counts[node] = 0;
-        i += 1;
-    }
+    counts[..n as usize].fill(0);
 }
 
 // Each root has one path to itself, and one more where it is named again.
@@ -60,10 +55,8 @@ fn seed(roots: &[u64], counts: &mut [u64], n: u64)
     requires { Seedable n roots.now counts.old }
     ensures { Seeded n roots.now counts.new (length roots.now) }
 {
-    let mut k = 0;
-    while k < roots.len() {
-        add_at(counts, roots[k], 1);
-        k += 1;
+    for &root in roots {
+        add_at(counts, root, 1);
     }
 }
 
@@ -75,10 +68,7 @@ pub fn count_paths(m: &[u64], order: &[u64], rank: &[u64], roots: &[u64], counts
     let n = m[1];
     clear(counts, n);
     seed(roots, counts, n);
-    let mut q: u64 = n;
-    while q > 0 {
-        q -= 1;
-        let place = q as usize;
-        give(m, counts, order[place]);
+    for q in (0..n).rev() {
+        give(m, counts, order[q as usize]);
     }
 }

@@ -8,12 +8,5 @@ pub fn bad_id(m: &[u64], ids: &[u64]) -> bool
     ensures { result ≡ bad_id m.now ids.now }
 {
     let n = m[1];
-    let mut k = 0;
-    while k < ids.len() {
-        if n <= ids[k] {
-            return true;
-        }
-        k += 1;
-    }
-    false
+    ids.iter().any(|&id| n <= id)
 }

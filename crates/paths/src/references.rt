@@ -12,8 +12,7 @@ use crate::ids::bad_id;
 use crate::rising::{copy_words, insert_word};
 use circuit::check::check;
 use circuit::place::{node_at, write_word};
-use layout::refusal::{BAD_ID, NO_ROOM, NOT_CIRCUIT, PATHS, REPEAT};
-use walking::{Count, Counted};
+use layout::refusal::Refusal;
 
 // The bound of path counts.
 const MOST_PATHS: u64 = 4294967295;
@@ -23,30 +22,14 @@ fn any_repeated(roots: &[u64], counts: &[u64]) -> bool
     requires { (k : ℕ) → k < length roots.now → at roots.now k < length counts.now }
     ensures { result ≡ any (λ i. ltb 1 (at counts.now i)) roots.now }
 {
-    let mut k = 0;
-    while k < roots.len() {
-        let root = roots[k] as usize;
-        if 1 < counts[root] {
-            return true;
-        }
-        k += 1;
-    }
-    false
+    roots.iter().any(|&root| 1 < counts[root as usize])
 }
 
 fn any_over(counts: &[u64], n: u64) -> bool
     requires { n ≤ length counts.now }
     ensures { result ≡ any (λ i. ltb 4294967295 (at counts.now i)) (up_to n) }
 {
-    let mut i: u64 = 0;
-    while i < n {
-        let node = i as usize;
-        if MOST_PATHS < counts[node] {
-            return true;
-        }
-        i += 1;
-    }
-    false
+    counts[..n as usize].iter().any(|&c| MOST_PATHS < c)
 }
 
 // A node that no path leads to keeps its count.
@@ -63,37 +46,33 @@ fn put_counts(m: &mut [u64], counts: &[u64])
     requires { Counting m.old counts.now }
     ensures { m.new ≡ put_all m.old counts.now }
 {
-    let n = m[1];
-    let mut i: u64 = 0;
-    while i < n {
-        let node = i as usize;
-        put_count(m, i, counts[node]);
-        i += 1;
+    for i in 0..m[1] {
+        put_count(m, i, counts[i as usize]);
     }
 }
 
 // Reference counts of a list of roots, written to the nodes below them.
-pub fn count_references(m: &mut [u64], roots: &[u64]) -> Counted
+pub fn count_references(m: &mut [u64], roots: &[u64]) -> Result<(), Refusal>
     ensures { told_counted result m.new ≡ count_call m.old roots.now }
 {
     let mut order = [0u64; 4096];
     let mut rank = [0u64; 4096];
     if !check(m, &mut order, &mut rank) {
-        return Counted::Refused(NOT_CIRCUIT);
+        return Err(Refusal::NotCircuit);
     }
     if bad_id(m, roots) {
-        return Counted::Refused(BAD_ID);
+        return Err(Refusal::BadId);
     }
     let mut counts = [0u64; 4096];
     count_paths(m, &order, &rank, roots, &mut counts);
     if any_repeated(roots, &counts) {
-        return Counted::Refused(REPEAT);
+        return Err(Refusal::Repeat);
     }
     if any_over(&counts, m[1]) {
-        return Counted::Refused(PATHS);
+        return Err(Refusal::Paths);
     }
     put_counts(m, &counts);
-    Counted::Written
+    Ok(())
 }
 
 // The reference counts of the nodes that have a path count, rising and each once: how many.
@@ -101,30 +80,26 @@ fn gather(m: &[u64], counts: &[u64], words: &mut [u64]) -> u64
     requires { Gathering m.now counts.now words.old }
     ensures { Words words.new (gathered m.now counts.now (used m.now)) result }
 {
-    let n = m[1];
     let mut found: u64 = 0;
-    let mut j: u64 = 0;
-    while j < n {
-        let node = j as usize;
-        if 0 < counts[node] {
+    for j in 0..m[1] {
+        if 0 < counts[j as usize] {
             found = insert_word(words, found, node_at(m, j).references);
         }
-        j += 1;
     }
     found
 }
 
 // The sorted distinct reference counts of the nodes below node i, itself included: how many now stand in the list.
-pub fn distinct_counts(m: &[u64], i: u64, list: &mut [u64]) -> Count
+pub fn distinct_counts(m: &[u64], i: u64, list: &mut [u64]) -> Result<u64, Refusal>
     ensures { told_count result list.new ≡ counts_call m.now i list.old }
 {
     let mut order = [0u64; 4096];
     let mut rank = [0u64; 4096];
     if !check(m, &mut order, &mut rank) {
-        return Count::Refused(NOT_CIRCUIT);
+        return Err(Refusal::NotCircuit);
     }
     if m[1] <= i {
-        return Count::Refused(BAD_ID);
+        return Err(Refusal::BadId);
     }
     let mut counts = [0u64; 4096];
     let root = [i; 1];
@@ -132,8 +107,8 @@ pub fn distinct_counts(m: &[u64], i: u64, list: &mut [u64]) -> Count
     let mut words = [0u64; 4096];
     let found = gather(m, &counts, &mut words);
     if (list.len() as u64) < found {
-        return Count::Refused(NO_ROOM);
+        return Err(Refusal::NoRoom);
     }
     copy_words(&words, list, found);
-    Count::Found(found)
+    Ok(found)
 }

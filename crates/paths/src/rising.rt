@@ -9,15 +9,12 @@ fn place_of(words: &[u64], n: u64, v: u64) -> u64
     requires { n ≤ length words.now }
     ensures { Placed words.now n v result }
 {
-    let mut k: u64 = 0;
-    while k < n {
-        let place = k as usize;
-        if v <= words[place] {
+    for k in 0..n {
+        if v <= words[k as usize] {
             return k;
         }
-        k += 1;
     }
-    k
+    n
 }
 
 // Puts v at place k, and moves what stands there and after it up by one.
@@ -25,17 +22,9 @@ fn move_up(words: &mut [u64], n: u64, k: u64, v: u64)
     requires { (k ≤ n) × (n < length words.old) }
     ensures { words.new ≡ sets words.old k (v ∷ drop k (take n words.old)) }
 {
-    let mut carry = v;
-    let mut j = k;
-    while j < n {
-        let place = j as usize;
-        let next = words[place];
-        words[place] = carry;
-        carry = next;
-        j += 1;
-    }
-    let last = n as usize;
-    words[last] = carry;
+    let place = k as usize;
+    words.copy_within(place..n as usize, place + 1);
+    words[place] = v;
 }
 
 // Inserts v, unless it is there: how many words there are then.
@@ -59,10 +48,6 @@ pub(crate) fn copy_words(words: &[u64], list: &mut [u64], n: u64)
     requires { (n ≤ length words.now) × (n ≤ length list.old) }
     ensures { list.new ≡ written (take n words.now) list.old }
 {
-    let mut k: u64 = 0;
-    while k < n {
-        let place = k as usize;
-        list[place] = words[place];
-        k += 1;
-    }
+    let found = n as usize;
+    list[..found].copy_from_slice(&words[..found]);
 }

@@ -5,16 +5,7 @@ ghost use Rattle.layout.specs.Tree.{tree};
 ghost use Rattle.walking.specs.Paths.{walk, walks};
 ghost use Rattle.paths.specs.Walking.{Sizes, Sizable, Sizing, Summing, Measuring};
 
-use circuit::check::{Step, step_at};
-
-fn capped(sum: u64, top: u64) -> u64
-    ensures { result ≡ min top sum }
-{
-    if sum < top {
-        return sum;
-    }
-    top
-}
+use circuit::check::step_at;
 
 // The tree size of node i, from its operands'.
 fn size_at(m: &[u64], sizes: &[u64], top: u64, i: u64) -> u64
@@ -23,11 +14,11 @@ fn size_at(m: &[u64], sizes: &[u64], top: u64, i: u64) -> u64
 {
     let s = step_at(m, i);
     match s {
-        Step::Stay => capped(1, top),
-        Step::Two(l, r) => {
+        None => top.min(1),
+        Some((l, r)) => {
             let left = l as usize;
             let right = r as usize;
-            capped(sizes[left] + 1 + sizes[right], top)
+            (sizes[left] + 1 + sizes[right]).min(top)
         }
     }
 }
@@ -36,15 +27,9 @@ fn tree_sizes(m: &[u64], order: &[u64], rank: &[u64], sizes: &mut [u64], top: u6
     requires { Sizable m.now order.now rank.now sizes.old top }
     ensures { Sizes m.now sizes.new top }
 {
-    let n = m[1];
-    let mut q: u64 = 0;
-    while q < n {
-        let place = q as usize;
-        let i = order[place];
-        let size = size_at(m, sizes, top, i);
-        let node = i as usize;
-        sizes[node] = size;
-        q += 1;
+    for q in 0..m[1] {
+        let i = order[q as usize];
+        sizes[i as usize] = size_at(m, sizes, top, i);
     }
 }
 
@@ -53,11 +38,8 @@ fn sum_sizes(m: &[u64], roots: &[u64], sizes: &[u64], top: u64) -> u64
     ensures { result ≡ min top (length (walks m.now roots.now)) }
 {
     let mut sum: u64 = 0;
-    let mut k = 0;
-    while k < roots.len() {
-        let root = roots[k] as usize;
-        sum = capped(sum + sizes[root], top);
-        k += 1;
+    for &root in roots {
+        sum = (sum + sizes[root as usize]).min(top);
     }
     sum
 }

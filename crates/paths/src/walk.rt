@@ -11,9 +11,8 @@ ghost use Rattle.paths.specs.Walking.{right_walk, Descending, Descended, Walking
 use crate::counting::clear;
 use crate::ids::bad_id;
 use crate::sizes::walk_length;
-use circuit::check::{Step, check, step_at};
-use layout::refusal::{BAD_ID, NO_ROOM, NOT_CIRCUIT};
-use walking::Count;
+use circuit::check::{check, step_at};
+use layout::refusal::Refusal;
 
 // Pushes node i and its left lineage: how many stand on the stack then.
 fn descend(m: &[u64], stack: &mut [u64], i: u64, depth: u64) -> u64
@@ -28,10 +27,10 @@ fn descend(m: &[u64], stack: &mut [u64], i: u64, depth: u64) -> u64
         top += 1;
         let s = step_at(m, node);
         match s {
-            Step::Stay => {
+            None => {
                 return top;
             }
-            Step::Two(l, _) => {
+            Some((l, _)) => {
                 node = l;
             }
         }
@@ -45,8 +44,8 @@ fn go_right(m: &[u64], stack: &mut [u64], i: u64, depth: u64) -> u64
 {
     let s = step_at(m, i);
     match s {
-        Step::Stay => depth,
-        Step::Two(_, r) => descend(m, stack, r, depth),
+        None => depth,
+        Some((_, r)) => descend(m, stack, r, depth),
     }
 }
 
@@ -73,35 +72,33 @@ fn walk_roots(m: &[u64], roots: &[u64], list: &mut [u64], stack: &mut [u64]) -> 
     ensures { Walked m.now list.old stack.old list.new stack.new (walks m.now roots.now) 0 result }
 {
     let mut at: u64 = 0;
-    let mut k = 0;
-    while k < roots.len() {
-        at = walk_root(m, list, stack, roots[k], at);
-        k += 1;
+    for &root in roots {
+        at = walk_root(m, list, stack, root, at);
     }
     at
 }
 
 // The walk from each root after the other: how many ids now stand in the list. The stack ends zero up to the used count.
-pub fn walk(m: &[u64], roots: &[u64], list: &mut [u64], stack: &mut [u64]) -> Count
+pub fn walk(m: &[u64], roots: &[u64], list: &mut [u64], stack: &mut [u64]) -> Result<u64, Refusal>
     ensures { told_count result (list.new, stack.new) ≡ walk_call m.now roots.now list.old stack.old }
 {
     let mut order = [0u64; 4096];
     let mut rank = [0u64; 4096];
     if !check(m, &mut order, &mut rank) {
-        return Count::Refused(NOT_CIRCUIT);
+        return Err(Refusal::NotCircuit);
     }
     if bad_id(m, roots) {
-        return Count::Refused(BAD_ID);
+        return Err(Refusal::BadId);
     }
     let room = list.len() as u64;
     if room < walk_length(m, &order, &rank, roots, room + 1) {
-        return Count::Refused(NO_ROOM);
+        return Err(Refusal::NoRoom);
     }
     let n = m[1];
     if (stack.len() as u64) < n {
-        return Count::Refused(NO_ROOM);
+        return Err(Refusal::NoRoom);
     }
     let found = walk_roots(m, roots, list, stack);
     clear(stack, n);
-    Count::Found(found)
+    Ok(found)
 }

@@ -1,4 +1,5 @@
 -- One pass up the order: when a node's turn comes, its operands have their answers. Assumes nothing.
+use Rattle.std.specs.Prelude.{Some}
 use Prim.Native.Nat.{ℕ, ◌+◌, ◌<◌, ◌≤◌}
 use mathlib.Core.Path.{◌≡◌, refl, sym, ap, ◌∙◌}
 use mathlib.Core.Bool.{false}
@@ -13,13 +14,12 @@ use Rattle.layout.specs.NotCircuit.{not_circuit}
 use Rattle.circuit.specs.Rank.{at, Sorted}
 use Rattle.layout.proofs.Valid.{valid_operands}
 use Rattle.paths.proofs.Counts.{valid_top}
-use Rattle.read.specs.declared.step.Step.TheVariants.{Two}
 use Rattle.read.specs.Tables.{unknown, operands_of, Filled}
 use Rattle.read.specs.Passes.{Ordered, Joinable}
 use Rattle.read.proofs.Tables.{two_operation, unknown_step, Joined, Filling, filling_next}
 
 -- one node
-module _ {answer : ℕ → ℕ} {m table : List ℕ} {i : ℕ} (q : Joinable answer m table i) {o : Op} {l r : ℕ} (s : operands_of (expression_at m i) ≡ Two o l r) where
+module _ {answer : ℕ → ℕ} {m table : List ℕ} {i : ℕ} (q : Joinable answer m table i) {o : Op} {l r : ℕ} (s : operands_of (expression_at m i) ≡ Some (o, l, r)) where
   operation : expression_at m i ≡ Operation o l r
   operation = two_operation m i unknown o l r (unknown_step m i unknown refl ∙ s)
 

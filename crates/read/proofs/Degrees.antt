@@ -1,5 +1,5 @@
 -- Degrees under the cap: what is not told apart does not matter to a sum or a product. Assumes nothing.
-use Rattle.std.specs.Prelude.{if◌then◌else◌}
+use Rattle.std.specs.Prelude.{if◌then◌else◌, None}
 use Prim.Native.Nat.{ℕ, zero, suc, ◌+◌, ◌-◌, ◌<◌, ◌≤◌, min}
 use mathlib.Core.Path.{◌≡◌, refl, sym, ap, ◌∙◌}
 use mathlib.Core.Logic.{◌≢◌}
@@ -14,7 +14,6 @@ use Rattle.layout.specs.NotCircuit.{not_circuit}
 use Rattle.layout.specs.Words.{used, expression_at}
 use Rattle.layout.specs.Tree.{Leaf, base_leaf, extension_leaf, challenge_leaf, input_leaf, Tree, branch}
 use Rattle.reading.specs.Readings.{leaf_degree⁺, product_degree⁺, degree⁺, signed}
-use Rattle.read.specs.declared.step.Step.TheVariants.{Stay}
 use Rattle.read.specs.Tables.{unknown, operands_of, Filled, Right, itself}
 use Rattle.read.specs.Degrees.{top, degree_to, degree_entry, degree_over, degree_join}
 use Rattle.read.proofs.Tables.{Folds, Joined, answer_two, answer_leaf, leaves_right}
@@ -81,7 +80,7 @@ module _ (m : List ℕ) (valid : not_circuit m ≡ false) where
   unfolding degree_to
   degree_two i h o l r e = answer_two (λ t. min top (degree⁺ t)) leaf_degree⁺ degree_join degree_folds m valid i h o l r e
 
-  pub degree_leaf : (i : ℕ) → i < used m → operands_of (expression_at m i) ≡ Stay → degree_entry (expression_at m i) ≡ degree_to m i
+  pub degree_leaf : (i : ℕ) → i < used m → operands_of (expression_at m i) ≡ None → degree_entry (expression_at m i) ≡ degree_to m i
   unfolding degree_to degree_entry
   degree_leaf i h s = answer_leaf (λ t. min top (degree⁺ t)) leaf_degree⁺ degree_join degree_folds m valid i h unknown s
 

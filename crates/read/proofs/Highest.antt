@@ -1,5 +1,5 @@
 -- The degrees below a list of roots: which is over the bound, and which is the highest. Assumes nothing.
-use Prim.Native.Nat.{ℕ, suc, ◌-◌, ◌<◌, ◌≤◌, min, max}
+use Prim.Native.Nat.{ℕ, ◌<◌, ◌≤◌, min, max}
 use mathlib.Core.Path.{◌≡◌, refl, sym, ap, ◌∙◌}
 use mathlib.Core.Logic.{inl, inr, ⊎_elim}
 use mathlib.Core.Bool.{Bool, false, ◌&&◌}
@@ -7,8 +7,6 @@ use mathlib.Core.List.{List, [], ◌∷◌, map, foldr}
 use native.Mathlib.Omega.{arith}
 use lib.IntN.{pos}
 use lib.Dec.{ltb, eqb}
-use lib.ListN.{length, get_or, drop}
-use lib.Seq.{drop-cons, drop-length}
 use borrow.Author.Tests.{lt-ltb, le-ltb, eq-eqb, ne_eqb}
 use Rattle.layout.specs.Lists.{In, any, up_to}
 use Rattle.layout.specs.Words.{used}
@@ -66,18 +64,6 @@ module _ (m roots counts table : List ℕ) (valid : not_circuit m ≡ false) (id
         go : (xs : List ℕ) → ((x : ℕ) → In x xs → at table x ≤ top) → foldr max 0 (map (at table) xs) ≤ top
         go [] h = omega arith
         go (x ∷ xs) h = let a = h x (inl refl) in let b = go xs (λ y k. h y (inr k)) in omega arith
-
--- from the last root on
-
-pub highest_start : (f : ℕ → ℕ) (roots : List ℕ) → 0 ≡ foldr max 0 (map f (drop (length roots) roots))
-highest_start f roots = rw (drop-length roots)
-
-pub highest_next : (f : ℕ → ℕ) (roots : List ℕ) (k d : ℕ) → 0 < k → k ≤ length roots → d ≡ foldr max 0 (map f (drop k roots)) → max (f (get_or roots (k - 1) 0)) d ≡ foldr max 0 (map f (drop (k - 1) roots))
-highest_next f roots k d p q e =
-    let s : suc (k - 1) ≡ k = omega arith in
-    let x = get_or roots (k - 1) 0 in
-    let h : drop (k - 1) roots ≡ x ∷ drop k roots = drop-cons roots (k - 1) 0 (omega arith) ∙ ap (λ (n : ℕ). x ∷ drop n roots) s in
-    ap (max (f x)) e ∙ sym (ap (λ (l : List ℕ). foldr max 0 (map f l)) h)
 
 -- a node's degree is the highest of one root
 pub degree_highest : (m : List ℕ) (i : ℕ) → highest_call m (i ∷ []) ≡ degree_call m i

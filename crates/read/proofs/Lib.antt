@@ -8,4 +8,3 @@ pub mod Values
 pub mod Highest
 pub mod Lent
 pub mod Seen
-pub mod Unique

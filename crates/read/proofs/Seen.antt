@@ -1,14 +1,16 @@
 -- Visible nodes are the classes below the roots: one of each structure is one of each class, and so as many as there are marks. Assumes nothing.
 use Rattle.std.specs.Prelude.{if◌then◌else◌}
-use Prim.Native.Nat.{ℕ, zero, suc, ◌+◌, ◌<◌}
+use Rattle.std.specs.List.{count_by}
+use Rattle.std.proofs.lemmas.List.Sums.{sum_by_more}
+use Prim.Native.Nat.{ℕ, zero, suc, ◌+◌, ◌<◌, ◌≤◌}
 use mathlib.Core.Path.{◌≡◌, refl, sym, ap, ◌∙◌}
 use mathlib.Core.Logic.{◌⊎◌, inl, inr, ⊎_elim, ◌≢◌}
-use mathlib.Core.Bool.{Bool, true, false, ◌||◌}
+use mathlib.Core.Bool.{Bool, true, false, ◌||◌, cond}
 use mathlib.Core.List.{List, [], ◌∷◌, map}
 use native.Mathlib.Numerals.{add-one}
 use native.Mathlib.Omega.{arith}
 use lib.Dec.{eqb}
-use lib.ListN.{length, set, replicate, length-map}
+use lib.ListN.{length, take, set, replicate, length-map}
 use lib.Seq.{get_or-set_same, get_or-set_other}
 use borrow.Author.Tests.{eqb-true, eq-eqb, ne_eqb, lt-ltb, le-ltb}
 use Rattle.layout.specs.Lists.{In, any, distinct, up_to, bit}
@@ -121,13 +123,17 @@ unfolding marks
 marks_sum seen zero = sym (sum_start (λ k. bit (eqb (at seen k) 1)))
 marks_sum seen (suc n) = rw (marks_sum seen n) (sym (sum_more (λ k. bit (eqb (at seen k) 1)) n))
 
-pub marks_start : (seen : List ℕ) → 0 ≡ marks seen 0
+-- they are counted among the first n
+pub marks_counted : (seen : List ℕ) (n : ℕ) → n ≤ length seen → count_by (λ x. eqb x 1) (take n seen) ≡ marks seen n
 unfolding marks
-marks_start seen = refl
-
-pub marks_next : (seen : List ℕ) (k found : ℕ) → found ≡ marks seen k → found + bit (eqb (at seen k) 1) ≡ marks seen (k + 1)
-unfolding marks
-marks_next seen k found e = rw (add-one, e)
+marks_counted seen zero h = refl
+marks_counted seen (suc n) h =
+    let e = rw add-one at (sum_by_more (λ x. cond (eqb x 1) 1 0) seen n 0 (omega arith)) in
+    e ∙ ap (λ (k : ℕ). k + cond (eqb (at seen n) 1) 1 0) (marks_counted seen n (omega arith)) ∙ ap (λ (k : ℕ). marks seen n + k) (go (eqb (at seen n) 1))
+  where
+    go : (b : Bool) → cond b 1 0 ≡ bit b
+    go true = refl
+    go false = refl
 
 pub no_marks : (n k : ℕ) → at (replicate n 0) k ≡ 0
 no_marks zero k = refl

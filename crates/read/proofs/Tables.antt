@@ -1,5 +1,5 @@
 -- The laws of the tables in which the recursions remember answers: one node asked for, and its operands. Assumes nothing.
-use Rattle.std.specs.Prelude.{if◌then◌else◌}
+use Rattle.std.specs.Prelude.{if◌then◌else◌, None, Some, Option, unwrap_or}
 use Prim.Native.Nat.{ℕ, ◌+◌, ◌<◌, ◌≤◌}
 use mathlib.Core.Path.{◌≡◌, refl, sym, ap, ◌∙◌}
 use mathlib.Core.Logic.{◌≢◌, ⊎_elim}
@@ -9,7 +9,7 @@ use native.Mathlib.Omega.{arith}
 use lib.Dec.{eqb}
 use borrow.Author.Tests.{eq-eqb}
 use borrow.Author.Count.{below_more}
-use lib.ListN.{length, set, length-set}
+use lib.ListN.{length, set}
 use lib.Seq.{get_or-set_same, get_or-set_other}
 use Rattle.layout.specs.declared.node.Op.{Op}
 use Rattle.layout.specs.declared.node.Expression.{Expression}
@@ -21,8 +21,7 @@ use Rattle.circuit.specs.Rank.{at, Sorted}
 use Rattle.layout.proofs.Tests.{same_or}
 use Rattle.layout.proofs.Valid.{valid_fits, valid_operands}
 use Rattle.layout.proofs.Trees.{tree_fixed}
-use Rattle.read.specs.declared.step.Step.TheVariants.{Stay, Two}
-use Rattle.read.specs.Tables.{unknown, operands_of, step_at, Ranked, leaf_entry, Filled, Right, Told, Roomy, Asked, AllAsked, itself}
+use Rattle.read.specs.Tables.{unknown, operands_of, step_at, Ranked, leaf_entry, Filled, Right, Told, Asked, itself}
 
 -- a reading is worked out from its two operands' own answers
 pub record Folds {A : Type 0} (reading : Tree → A) (own : Leaf → A) (join : Op → A → A → A) : Type 0 where
@@ -30,18 +29,20 @@ pub record Folds {A : Type 0} (reading : Tree → A) (own : Leaf → A) (join : 
   pub at_branch : (i : ℕ) (o : Op) (l r : Tree) → reading (branch i o l r) ≡ join o (reading l) (reading r)
 
 -- a step to the operands is one of an operation
-operands_operation : (e : Expression) (o : Op) (l r : ℕ) → operands_of e ≡ Two o l r → e ≡ Operation o l r
+operands_operation : (e : Expression) (o : Op) (l r : ℕ) → operands_of e ≡ Some (o, l, r) → e ≡ Operation o l r
 operands_operation (Base w) o l r h = let z : ◌≡◌ {A = ℕ} 0 1 = cc in absurd (omega arith)
 operands_operation (Extension x) o l r h = let z : ◌≡◌ {A = ℕ} 0 1 = cc in absurd (omega arith)
 operands_operation (Challenge k) o l r h = let z : ◌≡◌ {A = ℕ} 0 1 = cc in absurd (omega arith)
-operands_operation (Operation q a b) o l r h = cc
+operands_operation (Operation q a b) o l r h =
+    let none : Op × ℕ × ℕ = (q, a, b) in
+    ap (λ (s : Option (Op × ℕ × ℕ)). let t = unwrap_or s none in Operation t.0 t.1 t.2) h
 operands_operation (Input q) o l r h = let z : ◌≡◌ {A = ℕ} 0 1 = cc in absurd (omega arith)
 
-pub two_operation : (m : List ℕ) (i w : ℕ) (o : Op) (l r : ℕ) → step_at m i w ≡ Two o l r → expression_at m i ≡ Operation o l r
+pub two_operation : (m : List ℕ) (i w : ℕ) (o : Op) (l r : ℕ) → step_at m i w ≡ Some (o, l, r) → expression_at m i ≡ Operation o l r
 unfolding step_at
 two_operation m i w o l r h = go (eqb w unknown) h
   where
-    go : (b : Bool) → (if b then operands_of (expression_at m i) else Stay) ≡ Two o l r → expression_at m i ≡ Operation o l r
+    go : (b : Bool) → (if b then operands_of (expression_at m i) else None) ≡ Some (o, l, r) → expression_at m i ≡ Operation o l r
     go true e = operands_operation (expression_at m i) o l r e
     go false e = let z : ◌≡◌ {A = ℕ} 0 1 = cc in absurd (omega arith)
 
@@ -54,7 +55,7 @@ module _ {k : ℕ} {m rank table : List ℕ} {i : ℕ} (q : Asked k m rank table
   pub asked_fits : offset i + 6 ≤ length m
   asked_fits = valid_fits m q.ranked.valid i q.here
 
-  module _ (w : ℕ) {o : Op} {l r : ℕ} (s : step_at m i w ≡ Two o l r) (table' : List ℕ) (same : length table' ≡ length table) where
+  module _ (w : ℕ) {o : Op} {l r : ℕ} (s : step_at m i w ≡ Some (o, l, r)) (table' : List ℕ) (same : length table' ≡ length table) where
     below : (l < used m) × (r < used m)
     below = valid_operands m q.ranked.valid i q.here o l r (two_operation m i w o l r s)
 
@@ -66,7 +67,7 @@ module _ {k : ℕ} {m rank table : List ℕ} {i : ℕ} (q : Asked k m rank table
 
 module _ {A : Type 0} (word : A → ℕ) (m : List ℕ) where
   -- an entry that is known
-  pub told_known : (entry answer : ℕ → A) (i : ℕ) (x : A) → i < used m → x ≡ entry i → step_at m i (word x) ≡ Stay → Right word m entry answer → Told word m entry entry answer i (entry i)
+  pub told_known : (entry answer : ℕ → A) (i : ℕ) (x : A) → i < used m → x ≡ entry i → step_at m i (word x) ≡ None → Right word m entry answer → Told word m entry entry answer i (entry i)
   told_known entry answer i x h p s q =
       let e = q.told i h (ap (λ (y : A). step_at m i (word y)) (sym p) ∙ s) in
       record { answered = e; here = e; stays = λ j k. k; right = q }
@@ -90,7 +91,7 @@ abbrev pub Joined : {A : Type 0} → List ℕ → (Op → A → A → A) → (�
 Joined m join answer = (i : ℕ) → i < used m → (o : Op) (l r : ℕ) → expression_at m i ≡ Operation o l r → answer i ≡ join o (answer l) (answer r)
 
 -- in a table of words, the entry that becomes known is stored
-module _ (join : Op → ℕ → ℕ → ℕ) (answer : ℕ → ℕ) {m rank table₀ : List ℕ} (table₁ table₂ : List ℕ) {i : ℕ} (w : ℕ) {l r : ℕ} (a b x : ℕ) {o : Op} (law : Joined m join answer) (q : Asked 1 m rank table₀ i) (s : step_at m i w ≡ Two o l r) (same₁ : length table₁ ≡ length table₀) (same₂ : length table₂ ≡ length table₁) where
+module _ (join : Op → ℕ → ℕ → ℕ) (answer : ℕ → ℕ) {m rank table₀ : List ℕ} (table₁ table₂ : List ℕ) {i : ℕ} (w : ℕ) {l r : ℕ} (a b x : ℕ) {o : Op} (law : Joined m join answer) (q : Asked 1 m rank table₀ i) (s : step_at m i w ≡ Some (o, l, r)) (same₁ : length table₁ ≡ length table₀) (same₂ : length table₂ ≡ length table₁) where
   pub told_word : (Right itself m (at table₀) answer → Told itself m (at table₀) (at table₁) answer l a) → (Right itself m (at table₁) answer → Told itself m (at table₁) (at table₂) answer r b) → x ≡ join o a b → Right itself m (at table₀) answer → Told itself m (at table₀) (at (set table₂ i x)) answer i x
   told_word left right made =
       let h = q.here in
@@ -103,10 +104,10 @@ module _ {A : Type 0} (reading : Tree → A) (own : Leaf → A) (join : Op → A
   answer_two o l r e = ap reading (tree_fixed m valid i here ∙ ap (λ (x : Expression). tree_over i x (tree m)) e) ∙ f.at_branch i o (tree m l) (tree m r)
 
   -- what a table starts with: where no operands are to be asked, the answer
-  pub answer_leaf : (none : A) → operands_of (expression_at m i) ≡ Stay → leaf_entry own none (expression_at m i) ≡ reading (tree m i)
+  pub answer_leaf : (none : A) → operands_of (expression_at m i) ≡ None → leaf_entry own none (expression_at m i) ≡ reading (tree m i)
   answer_leaf none h = rw (tree_fixed m valid i here) (go (expression_at m i) h)
     where
-      go : (e : Expression) → operands_of e ≡ Stay → leaf_entry own none e ≡ reading (tree_over i e (tree m))
+      go : (e : Expression) → operands_of e ≡ None → leaf_entry own none e ≡ reading (tree_over i e (tree m))
       go (Base w) h = sym (f.at_leaf i (base_leaf w))
       go (Extension x) h = sym (f.at_leaf i (extension_leaf x))
       go (Challenge k) h = sym (f.at_leaf i (challenge_leaf k))
@@ -118,10 +119,10 @@ module _ {A : Type 0} (word : A → ℕ) (reading : Tree → A) (own : Leaf → 
   pub leaves_right : (entry : ℕ → A) → Filled (used m) entry (λ j. leaf_entry own none (expression_at m j)) → Right word m entry (λ j. reading (tree m j))
   leaves_right entry q = record { told = λ j h s. q.told j h ∙ answer_leaf reading own join f m valid j h none (stays j (q.told j h) s) }
     where
-      stays : (j : ℕ) → entry j ≡ leaf_entry own none (expression_at m j) → step_at m j (word (entry j)) ≡ Stay → operands_of (expression_at m j) ≡ Stay
+      stays : (j : ℕ) → entry j ≡ leaf_entry own none (expression_at m j) → step_at m j (word (entry j)) ≡ None → operands_of (expression_at m j) ≡ None
       stays j p s = go (expression_at m j) refl
         where
-          go : (e : Expression) → expression_at m j ≡ e → operands_of (expression_at m j) ≡ Stay
+          go : (e : Expression) → expression_at m j ≡ e → operands_of (expression_at m j) ≡ None
           go (Base w) q = ap operands_of q
           go (Extension x) q = ap operands_of q
           go (Challenge k) q = ap operands_of q
@@ -136,34 +137,11 @@ pub record Filling {A : Type 0} (m table₀ table : List ℕ) (entry answer : �
   pub filled : Filled i entry answer
 
 module _ {A : Type 0} (m table₀ table : List ℕ) (entry answer : ℕ → A) (i : ℕ) where
-  pub filling_start : length table ≡ length table₀ → Filling m table₀ table entry answer 0
-  filling_start same = record { within = omega arith; same = same; filled = record { told = λ j h. absurd (omega arith) } }
-
-  -- all entries are there
-  pub filling_done : Filling m table₀ table entry answer i → used m ≤ i → Filled (used m) entry answer
-  filling_done f h = record { told = λ j l. f.filled.told j (omega arith) }
-
   pub filling_next : (table' : List ℕ) (entry' : ℕ → A) → Filling m table₀ table entry answer i → i < used m → length table' ≡ length table → entry' i ≡ answer i → ((j : ℕ) → j < i → entry j ≡ answer j → entry' j ≡ answer j) → Filling m table₀ table' entry' answer (i + 1)
   filling_next table' entry' f h same here others =
       record { within = omega arith; same = same ∙ f.same; filled = record { told = below_more (λ (j : ℕ). entry' j ≡ answer j) i (λ j l. others j l (f.filled.told j l)) here } }
-
--- a word stored in its place
-module _ (m table₀ table : List ℕ) (answer : ℕ → ℕ) (i x : ℕ) where
-  pub filling_word : Roomy 1 m table₀ → Filling m table₀ table (at table) answer i → i < used m → x ≡ answer i → Filling m table₀ (set table i x) (at (set table i x)) answer (i + 1)
-  filling_word q f h e =
-      let r = q.room in
-      let s = f.same in
-      filling_next m table₀ table (at table) answer i (set table i x) (at (set table i x)) f h (length-set table i x) (get_or-set_same table i x 0 (omega arith) ∙ e) (λ j l p. get_or-set_other table i j x 0 (omega arith) ∙ p)
-
--- an answer that a recursion left in its place, where the table was right
-module _ {A : Type 0} (word : A → ℕ) (m table₀ table table' : List ℕ) (entry entry' answer : ℕ → A) (i : ℕ) (r : A) where
-  pub filling_told : Filling m table₀ table entry answer i → i < used m → length table' ≡ length table → Told word m entry entry' answer i r → Filling m table₀ table' entry' answer (i + 1)
-  filling_told f h same t = filling_next m table₀ table entry answer i table' entry' f h same t.here (λ j l. t.stays j)
 
 -- what the recursions ask for, from what a check hands on
 
 pub sorted_ranked : (m order rank : List ℕ) → not_circuit m ≡ false → Sorted m order rank → Ranked m rank
 sorted_ranked m order rank v s = record { valid = v; left_first = s.left_first; right_first = s.right_first }
-
-pub asked_one : {k : ℕ} {m rank table₀ : List ℕ} (table : List ℕ) (i : ℕ) → AllAsked k m rank table₀ → length table ≡ length table₀ → i < used m → Asked k m rank table i
-asked_one table i q same h = record { ranked = q.ranked; room = rw same q.room; here = h }

@@ -1,10 +1,12 @@
 -- Values in a table of triples. Assumes nothing.
-use Prim.Native.Nat.{ℕ, ◌+◌, ◌-◌, ◌*◌, ◌/◌, ◌<◌, ◌≤◌}
-use mathlib.Core.Path.{◌≡◌, refl, ap, ◌∙◌}
+use Rattle.std.specs.Prelude.{Some}
+use Prim.Native.Nat.{ℕ, ◌+◌, ◌-◌, ◌*◌, ◌/◌, ◌<◌}
+use mathlib.Core.Path.{◌≡◌, refl, ◌∙◌}
 use mathlib.Core.Logic.{◌≢◌}
 use mathlib.Core.Bool.{false}
 use mathlib.Core.List.{List}
 use native.Mathlib.Omega.{arith}
+use borrow.Author.Count.{below_more}
 use lib.ListN.{length, get_or, set, take, drop, length-set, length-drop}
 use lib.Seq.{take_all, get_or-set_same, get_or-set_other}
 use Rattle.arithmetic.specs.declared.Triple.{Triple}
@@ -14,12 +16,11 @@ use Rattle.layout.specs.declared.node.Position.TheVariants.{Main, Aux, NextMain,
 use Rattle.layout.specs.declared.node.Op.{Op}
 use Rattle.layout.specs.Words.{used, apply}
 use Rattle.layout.specs.NotCircuit.{not_circuit}
-use Rattle.read.specs.declared.step.Step.TheVariants.{Two}
 use Rattle.reading.specs.Readings.{Assignment, input_value, leaf_value, value}
 use Rattle.reading.specs.Calls.{triple_at, next_row, assigned}
-use Rattle.read.specs.Tables.{unknown, step_at, Filled, Right, Told, Roomy, Asked}
+use Rattle.read.specs.Tables.{unknown, step_at, Filled, Right, Told, Asked}
 use Rattle.read.specs.Values.{value_at, value_entry, value_start, first_word, put_triple}
-use Rattle.read.proofs.Tables.{Folds, Joined, answer_two, leaves_right, told_two, two_operation, Filling, filling_next}
+use Rattle.read.proofs.Tables.{Folds, Joined, answer_two, leaves_right, told_two, two_operation}
 
 value_folds : (s : Assignment) → Folds (value s) (leaf_value s) apply
 unfolding value
@@ -76,35 +77,16 @@ module _ (table : List ℕ) (i : ℕ) (x : Triple) where
   unfolding triple_at
   put_other j n = rw (outside (3 * j) (omega arith) (omega arith) (omega arith), outside (3 * j + 1) (omega arith) (omega arith) (omega arith), outside (3 * j + 2) (omega arith) (omega arith) (omega arith))
 
-module _ (m table₀ table : List ℕ) (answer : ℕ → Triple) (i : ℕ) (x : Triple) where
-  pub filling_triple : Roomy 3 m table₀ → Filling m table₀ table (triple_at table) answer i → i < used m → x ≡ answer i → Filling m table₀ (put_triple table i x) (triple_at (put_triple table i x)) answer (i + 1)
-  filling_triple q f h e =
-      let r = q.room in
-      let s = f.same in
-      filling_next m table₀ table (triple_at table) answer i (put_triple table i x) (triple_at (put_triple table i x)) f h (put_length table i x) (put_here table i x (omega arith) ∙ e) (λ j l p. put_other table i x j (omega arith) ∙ p)
+-- a triple more
+pub filling_triple : (table : List ℕ) (answer : ℕ → Triple) (i : ℕ) (x : Triple) → 3 * i + 2 < length table → Filled i (triple_at table) answer → x ≡ answer i → Filled (i + 1) (triple_at (put_triple table i x)) answer
+filling_triple table answer i x h f e =
+    record { told = below_more (λ (j : ℕ). triple_at (put_triple table i x) j ≡ answer j) i (λ j l. put_other table i x j (omega arith) ∙ f.told j l) (put_here table i x h ∙ e) }
 
 -- the entry that becomes known is stored; the operands' values are read from theirs
-module _ (s : Assignment) {m rank table₀ : List ℕ} (table₁ table₂ table₃ : List ℕ) {i : ℕ} (w : ℕ) {l r : ℕ} (a b x : Triple) {o : Op} (q : Asked 3 m rank table₀ i) (e : step_at m i w ≡ Two o l r) (same₁ : length table₁ ≡ length table₀) (same₂ : length table₂ ≡ length table₁) (read_left : a ≡ triple_at table₂ l) (read_right : b ≡ triple_at table₂ r) (put : table₃ ≡ put_triple table₂ i x) where
+module _ (s : Assignment) {m rank table₀ : List ℕ} (table₁ table₂ table₃ : List ℕ) {i : ℕ} (w : ℕ) {l r : ℕ} (a b x : Triple) {o : Op} (q : Asked 3 m rank table₀ i) (e : step_at m i w ≡ Some (o, l, r)) (same₁ : length table₁ ≡ length table₀) (same₂ : length table₂ ≡ length table₁) (read_left : a ≡ triple_at table₂ l) (read_right : b ≡ triple_at table₂ r) (put : table₃ ≡ put_triple table₂ i x) where
   pub told_triple : (Right first_word m (triple_at table₀) (value_at s m) → Told first_word m (triple_at table₀) (triple_at table₁) (value_at s m) l (triple_at table₁ l)) → (Right first_word m (triple_at table₁) (value_at s m) → Told first_word m (triple_at table₁) (triple_at table₂) (value_at s m) r (triple_at table₂ r)) → x ≡ apply o a b → Right first_word m (triple_at table₀) (value_at s m) → Told first_word m (triple_at table₀) (triple_at table₃) (value_at s m) i (triple_at table₃ i)
   told_triple left right made =
       let h = q.here in
       let f = q.room in
       let p = put_here table₂ i x (omega arith) in
       rw (put, p) (told_two first_word m (triple_at table₀) (triple_at table₁) (triple_at table₂) (triple_at (put_triple table₂ i x)) (value_at s m) i l r (triple_at table₁ l) (triple_at table₂ r) a b x left right (λ t u. (read_left ∙ u.stays l t.here, read_right ∙ u.here)) p (put_other table₂ i x) apply o made (value_two s m q.ranked.valid i h o l r (two_operation m i w o l r e)))
-
--- the table stays right while values are found
-pub record Finding (m table₀ table : List ℕ) (i : ℕ) : Type 0 where
-  pub within : i ≤ used m
-  pub same : length table ≡ length table₀
-  pub right : (s : Assignment) → Right first_word m (triple_at table₀) (value_at s m) → Right first_word m (triple_at table) (value_at s m)
-
-module _ (m table₀ : List ℕ) where
-  pub finding_start : Finding m table₀ table₀ 0
-  finding_start = record { within = omega arith; same = refl; right = λ s q. q }
-
-  module _ (table table' : List ℕ) (i : ℕ) (f : Finding m table₀ table i) (h : i < used m) where
-    pub finding_skip : table' ≡ table → Finding m table₀ table' (i + 1)
-    finding_skip e = record { within = omega arith; same = ap length e ∙ f.same; right = rw e f.right }
-
-    pub finding_next : (last : List ℕ) → table' ≡ last → length last ≡ length table → ((s : Assignment) → Right first_word m (triple_at table) (value_at s m) → Told first_word m (triple_at table) (triple_at last) (value_at s m) i (triple_at last i)) → Finding m table₀ table' (i + 1)
-    finding_next last e k t = record { within = omega arith; same = ap length e ∙ k ∙ f.same; right = λ s q. rw e (t s (f.right s q)).right }

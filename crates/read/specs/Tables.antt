@@ -1,5 +1,5 @@
 -- The tables in which the recursions remember each node's answer. Assumes nothing.
-use Rattle.std.specs.Prelude.{ℕ, ◌*◌, ◌<◌, ◌≤◌, ◌≡◌, false, List, length, eqb, if◌then◌else◌}
+use Rattle.std.specs.Prelude.{ℕ, ◌*◌, ◌<◌, ◌≤◌, ◌≡◌, false, List, length, eqb, if◌then◌else◌, None, Option, Some}
 use Rattle.layout.specs.declared.node.Op.{Op}
 use Rattle.layout.specs.declared.node.Expression.{Expression}
 use Rattle.layout.specs.declared.node.Expression.TheVariants.{Base, Extension, Challenge, Operation, Input}
@@ -7,24 +7,22 @@ use Rattle.layout.specs.Words.{used, expression_at}
 use Rattle.layout.specs.Tree.{Leaf, base_leaf, extension_leaf, challenge_leaf, input_leaf}
 use Rattle.layout.specs.NotCircuit.{not_circuit}
 use Rattle.circuit.specs.Rank.{at}
-use Rattle.read.specs.declared.step.Step.{Step}
-use Rattle.read.specs.declared.step.Step.TheVariants.{Stay, Two}
 
 -- 2^64 - 1: no answer yet
 abbrev pub unknown : ℕ
 unknown = 18446744073709551615
 
 -- an operation's answer comes from its operands' answers
-abbrev pub operands_of : Expression → Step
-operands_of (Base w) = Stay
-operands_of (Extension x) = Stay
-operands_of (Challenge k) = Stay
-operands_of (Operation o l r) = Two o l r
-operands_of (Input q) = Stay
+abbrev pub operands_of : Expression → Option (Op × ℕ × ℕ)
+operands_of (Base w) = None
+operands_of (Extension x) = None
+operands_of (Challenge k) = None
+operands_of (Operation o l r) = Some (o, l, r)
+operands_of (Input q) = None
 
 -- unless it is known: w is the first word of node i's entry
-unfoldable pub step_at : List ℕ → ℕ → ℕ → Step
-step_at m i w = if eqb w unknown then operands_of (expression_at m i) else Stay
+unfoldable pub step_at : List ℕ → ℕ → ℕ → Option (Op × ℕ × ℕ)
+step_at m i w = if eqb w unknown then operands_of (expression_at m i) else None
 
 -- a circuit, and a rank that falls along operands
 pub record Ranked (m rank : List ℕ) : Type 0 where
@@ -47,7 +45,7 @@ module _ {A : Type 0} where
 
   -- where nothing is left to be worked out, an entry is the answer; `word` is an entry's first word
   pub record Right (word : A → ℕ) (m : List ℕ) (entry answer : ℕ → A) : Type 0 where
-    pub told : (j : ℕ) → j < used m → step_at m j (word (entry j)) ≡ Stay → entry j ≡ answer j
+    pub told : (j : ℕ) → j < used m → step_at m j (word (entry j)) ≡ None → entry j ≡ answer j
 
   -- after node i was asked for, and r answered: its entry is known now, and each that was known is
   pub record Told (word : A → ℕ) (m : List ℕ) (entry entry' answer : ℕ → A) (i : ℕ) (r : A) : Type 0 where

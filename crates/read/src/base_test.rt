@@ -10,12 +10,11 @@ ghost use Rattle.reading.specs.Calls.{base_test_call};
 ghost use Rattle.reading.specs.Answers.{told_test};
 ghost use Rattle.read.specs.Bases.{base_bit, base_entry, base_start, base_join};
 
-use crate::step::{Step, UNKNOWN, step_at};
+use crate::step::{UNKNOWN, step_at};
 use circuit::check::check;
 use circuit::place::expression_at;
 use layout::node::{Expression, Op, Position};
-use layout::refusal::{BAD_ID, NOT_CIRCUIT};
-use reading::answer::Test;
+use layout::refusal::Refusal;
 
 fn main_bit(q: Position) -> u64
     ensures { result ≡ bit (is_main q) }
@@ -45,12 +44,8 @@ fn leaf_bases(m: &[u64], table: &mut [u64])
     requires { Roomy 1 m.now table.old }
     ensures { Filled (used m.now) (at table.new) (base_start m.now) }
 {
-    let n = m[1];
-    let mut i: u64 = 0;
-    while i < n {
-        let node = i as usize;
-        table[node] = leaf_base(expression_at(m, i));
-        i += 1;
+    for i in 0..m[1] {
+        table[i as usize] = leaf_base(expression_at(m, i));
     }
 }
 
@@ -69,8 +64,8 @@ fn base_of(m: &[u64], rank: &[u64], table: &mut [u64], i: u64) -> u64
     let known = table[node];
     let s = step_at(m, i, known);
     match s {
-        Step::Stay => known,
-        Step::Two(o, l, r) => {
+        None => known,
+        Some((o, l, r)) => {
             let a = base_of(m, rank, table, l);
             let b = base_of(m, rank, table, r);
             let d = base_over(o, a, b);
@@ -86,11 +81,8 @@ pub fn bases(m: &[u64], rank: &[u64], table: &mut [u64])
     ensures { Filled (used m.now) (at table.new) (base_bit m.now) }
 {
     leaf_bases(m, table);
-    let n = m[1];
-    let mut i: u64 = 0;
-    while i < n {
+    for i in 0..m[1] {
         base_of(m, rank, table, i);
-        i += 1;
     }
 }
 
@@ -105,19 +97,19 @@ pub fn is_base(m: &[u64], rank: &[u64], i: u64) -> bool
 }
 
 // Yes where the value of node i needs no extension.
-pub fn base_test(m: &[u64], i: u64) -> Test
+pub fn base_test(m: &[u64], i: u64) -> Result<bool, Refusal>
     ensures { told_test result ≡ base_test_call m.now i }
 {
     let mut order = [0u64; 4096];
     let mut rank = [0u64; 4096];
     if !check(m, &mut order, &mut rank) {
-        return Test::Refused(NOT_CIRCUIT);
+        return Err(Refusal::NotCircuit);
     }
     if m[1] <= i {
-        return Test::Refused(BAD_ID);
+        return Err(Refusal::BadId);
     }
     let mut table = [0u64; 4096];
     bases(m, &rank, &mut table);
     let node = i as usize;
-    Test::Answer(table[node] == 1)
+    Ok(table[node] == 1)
 }

@@ -5,37 +5,34 @@ ghost use Rattle.reading.specs.Answers.{told_test};
 
 use circuit::calls::is_circuit;
 use circuit::constants::is_constant;
-use layout::refusal::{BAD_ID, NOT_CIRCUIT};
-use reading::answer::Test;
+use field::base::MINUS_ONE;
+use layout::refusal::Refusal;
 
-// p - 1
-const MINUS_ONE: u64 = 18446744069414584320;
-
-fn constant_test(m: &[u64], i: u64, w: u64) -> Test
+fn constant_test(m: &[u64], i: u64, w: u64) -> Result<bool, Refusal>
     ensures { told_test result ≡ constant_call w m.now i }
 {
     if !is_circuit(m) {
-        return Test::Refused(NOT_CIRCUIT);
+        return Err(Refusal::NotCircuit);
     }
     if m[1] <= i {
-        return Test::Refused(BAD_ID);
+        return Err(Refusal::BadId);
     }
-    Test::Answer(is_constant(w, m, i))
+    Ok(is_constant(w, m, i))
 }
 
-pub fn is_zero(m: &[u64], i: u64) -> Test
+pub fn is_zero(m: &[u64], i: u64) -> Result<bool, Refusal>
     ensures { told_test result ≡ is_zero_call m.now i }
 {
     constant_test(m, i, 0)
 }
 
-pub fn is_one(m: &[u64], i: u64) -> Test
+pub fn is_one(m: &[u64], i: u64) -> Result<bool, Refusal>
     ensures { told_test result ≡ is_one_call m.now i }
 {
     constant_test(m, i, 1)
 }
 
-pub fn is_minus_one(m: &[u64], i: u64) -> Test
+pub fn is_minus_one(m: &[u64], i: u64) -> Result<bool, Refusal>
     ensures { told_test result ≡ is_minus_one_call m.now i }
 {
     constant_test(m, i, MINUS_ONE)

@@ -12,34 +12,22 @@ ghost use Rattle.read.specs.Passes.{Ordered, Joinable};
 ghost use Rattle.read.specs.Rooted.{Rooted};
 ghost use Rattle.read.specs.Degrees.{over_at, Counted, Rows, top, degree_to, degree_entry, degree_start, degree_join};
 
-use crate::step::{Step, UNKNOWN, operands_of, step_at};
+use crate::step::{UNKNOWN, operands_of, step_at};
 use circuit::check::check;
 use circuit::place::expression_at;
 use layout::node::{Expression, Op};
-use layout::refusal::{BAD_ID, DEGREE, NOT_CIRCUIT};
+use layout::refusal::Refusal;
 use paths::counting::count_paths;
 use paths::ids::bad_id;
-use reading::answer::Degree;
 
 // One higher than the least degree over the bound, 2,147,483,647: a higher one is not told apart from it.
 const TOP: u64 = 2147483649;
-
-fn capped(d: u64) -> u64
-    ensures { result ≡ min top d }
-{
-    if d < TOP { d } else { TOP }
-}
 
 fn degree_over(o: Op, a: u64, b: u64) -> u64
     ensures { result ≡ degree_join o a b }
 {
     match o {
-        Op::Add => {
-            if a < b {
-                return capped(b);
-            }
-            capped(a)
-        }
+        Op::Add => a.max(b).min(TOP),
         Op::Multiply => {
             if a == 0 {
                 return 0;
@@ -47,7 +35,7 @@ fn degree_over(o: Op, a: u64, b: u64) -> u64
             if b == 0 {
                 return 0;
             }
-            capped(capped(a) - 1 + capped(b))
+            (a.min(TOP) - 1 + b.min(TOP)).min(TOP)
         }
     }
 }
@@ -74,12 +62,8 @@ fn leaf_degrees(m: &[u64], table: &mut [u64])
     requires { Roomy 1 m.now table.old }
     ensures { Filled (used m.now) (at table.new) (degree_start m.now) }
 {
-    let n = m[1];
-    let mut i: u64 = 0;
-    while i < n {
-        let node = i as usize;
-        table[node] = leaf_degree(expression_at(m, i));
-        i += 1;
+    for i in 0..m[1] {
+        table[i as usize] = leaf_degree(expression_at(m, i));
     }
 }
 
@@ -92,8 +76,8 @@ fn degree_of(m: &[u64], rank: &[u64], table: &mut [u64], i: u64) -> u64
     let known = table[node];
     let s = step_at(m, i, known);
     match s {
-        Step::Stay => known,
-        Step::Two(o, l, r) => {
+        None => known,
+        Some((o, l, r)) => {
             let a = degree_of(m, rank, table, l);
             let b = degree_of(m, rank, table, r);
             let d = degree_over(o, a, b);
@@ -109,11 +93,8 @@ pub(crate) fn degrees(m: &[u64], rank: &[u64], table: &mut [u64])
     ensures { Filled (used m.now) (at table.new) (degree_to m.now) }
 {
     leaf_degrees(m, table);
-    let n = m[1];
-    let mut i: u64 = 0;
-    while i < n {
+    for i in 0..m[1] {
         degree_of(m, rank, table, i);
-        i += 1;
     }
 }
 
@@ -125,8 +106,8 @@ fn degree_at(m: &[u64], table: &[u64], i: u64) -> u64
     let e = expression_at(m, i);
     let s = operands_of(e);
     match s {
-        Step::Stay => leaf_degree(e),
-        Step::Two(o, l, r) => {
+        None => leaf_degree(e),
+        Some((o, l, r)) => {
             let left = l as usize;
             let right = r as usize;
             degree_over(o, table[left], table[right])
@@ -139,15 +120,8 @@ pub fn degrees_along(m: &[u64], order: &[u64], rank: &[u64], table: &mut [u64])
     requires { Ordered m.now order.now rank.now table.old }
     ensures { Filled (used m.now) (at table.new) (degree_to m.now) }
 {
-    let n = m[1];
-    let mut q: u64 = 0;
-    while q < n {
-        let place = q as usize;
-        let i = order[place];
-        let d = degree_at(m, table, i);
-        let node = i as usize;
-        table[node] = d;
-        q += 1;
+    for &i in &order[..m[1] as usize] {
+        table[i as usize] = degree_at(m, table, i);
     }
 }
 
@@ -166,24 +140,17 @@ fn signed(d: u64) -> i64
 fn is_over(count: u64, d: u64) -> bool
     ensures { result ≡ (ltb 0 count && eqb d top) }
 {
-    if count == 0 {
-        return false;
-    }
-    d == TOP
+    count != 0 && d == TOP
 }
 
 fn any_over(m: &[u64], counts: &[u64], table: &[u64]) -> bool
     requires { Counted m.now counts.now table.now }
     ensures { result ≡ any (over_at counts.now table.now) (up_to (used m.now)) }
 {
-    let n = m[1];
-    let mut i: u64 = 0;
-    while i < n {
-        let node = i as usize;
-        if is_over(counts[node], table[node]) {
+    for i in 0..m[1] {
+        if is_over(counts[i as usize], table[i as usize]) {
             return true;
         }
-        i += 1;
     }
     false
 }
@@ -194,18 +161,13 @@ fn highest_entry(roots: &[u64], table: &[u64]) -> u64
     ensures { result ≡ foldr max 0 (map (at table.now) roots.now) }
 {
     let mut highest: u64 = 0;
-    let mut k = roots.len();
-    while k > 0 {
-        k -= 1;
-        let node = roots[k] as usize;
-        if highest < table[node] {
-            highest = table[node];
-        }
+    for &i in roots {
+        highest = highest.max(table[i as usize]);
     }
     highest
 }
 
-fn highest_of(m: &[u64], order: &[u64], rank: &[u64], roots: &[u64]) -> Degree
+fn highest_of(m: &[u64], order: &[u64], rank: &[u64], roots: &[u64]) -> Result<i64, Refusal>
     requires { Rooted m.now order.now rank.now roots.now }
     ensures { told_degree result ≡ highest_call m.now roots.now }
 {
@@ -214,28 +176,28 @@ fn highest_of(m: &[u64], order: &[u64], rank: &[u64], roots: &[u64]) -> Degree
     let mut table = [0u64; 4096];
     degrees(m, rank, &mut table);
     if any_over(m, &counts, &table) {
-        return Degree::Refused(DEGREE);
+        return Err(Refusal::Degree);
     }
-    Degree::Found(signed(highest_entry(roots, &table)))
+    Ok(signed(highest_entry(roots, &table)))
 }
 
 // The highest degree of a list of roots; of no roots, -1.
-pub fn highest(m: &[u64], roots: &[u64]) -> Degree
+pub fn highest(m: &[u64], roots: &[u64]) -> Result<i64, Refusal>
     ensures { told_degree result ≡ highest_call m.now roots.now }
 {
     let mut order = [0u64; 4096];
     let mut rank = [0u64; 4096];
     if !check(m, &mut order, &mut rank) {
-        return Degree::Refused(NOT_CIRCUIT);
+        return Err(Refusal::NotCircuit);
     }
     if bad_id(m, roots) {
-        return Degree::Refused(BAD_ID);
+        return Err(Refusal::BadId);
     }
     highest_of(m, &order, &rank, roots)
 }
 
 // The degree of a node; the zero constant has -1.
-pub fn degree(m: &[u64], i: u64) -> Degree
+pub fn degree(m: &[u64], i: u64) -> Result<i64, Refusal>
     ensures { told_degree result ≡ degree_call m.now i }
 {
     let roots = [i];

@@ -9,33 +9,26 @@ use layout::node::{Expression, Op};
 // No degree that is told apart, no bit and no element of a field.
 pub const UNKNOWN: u64 = 18446744073709551615;
 
-// What a recursion does at a node: the entry is the answer, or the answer comes from those of the two operands.
-#[derive(Clone, Copy)]
-pub enum Step {
-    Stay,
-    Two(Op, u64, u64),
-}
-
-// An operation's two operands.
-pub fn operands_of(e: Expression) -> Step
+// An operation, and its two operands.
+pub fn operands_of(e: Expression) -> Option<(Op, u64, u64)>
     ensures { result ≡ operands_of e }
 {
     match e {
-        Expression::Base(_) => Step::Stay,
-        Expression::Extension(_) => Step::Stay,
-        Expression::Challenge(_) => Step::Stay,
-        Expression::Operation(o, l, r) => Step::Two(o, l, r),
-        Expression::Input(_) => Step::Stay,
+        Expression::Base(_) => None,
+        Expression::Extension(_) => None,
+        Expression::Challenge(_) => None,
+        Expression::Operation(o, l, r) => Some((o, l, r)),
+        Expression::Input(_) => None,
     }
 }
 
-// At node i, whose entry begins with the word w.
-pub(crate) fn step_at(m: &[u64], i: u64, w: u64) -> Step
+// What a recursion does at node i, whose entry begins with the word w: nothing where the entry is the answer, else that comes from the operands'.
+pub(crate) fn step_at(m: &[u64], i: u64, w: u64) -> Option<(Op, u64, u64)>
     requires { offset i + 6 ≤ length m.now }
     ensures { result ≡ step_at m.now i w }
 {
     if w != UNKNOWN {
-        return Step::Stay;
+        return None;
     }
     operands_of(expression_at(m, i))
 }

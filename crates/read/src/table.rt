@@ -37,13 +37,7 @@ fn is_uneven(m: &[u64], main: &[u64], aux: &[u64], challenges: &[u64]) -> bool
     ensures { result ≡ uneven m.now main.now aux.now challenges.now }
 {
     let rows = m[0] as usize;
-    if main.len() % rows != 0 {
-        return true;
-    }
-    if aux.len() % (3 * rows) != 0 {
-        return true;
-    }
-    challenges.len() % 3 != 0
+    main.len() % rows != 0 || aux.len() % (3 * rows) != 0 || challenges.len() % 3 != 0
 }
 
 // Whether an expression reads beyond the tables.
@@ -69,11 +63,7 @@ fn is_beyond(m: &[u64], counts: &[u64], c: Columns, i: u64) -> bool
     requires { Pathed m.now counts.now × (i < used m.now) }
     ensures { result ≡ beyond_at m.now counts.now c i }
 {
-    let node = i as usize;
-    if counts[node] == 0 {
-        return false;
-    }
-    reads_beyond(c, expression_at(m, i))
+    counts[i as usize] != 0 && reads_beyond(c, expression_at(m, i))
 }
 
 // A node with a path count that reads beyond the tables.
@@ -81,13 +71,10 @@ pub fn any_beyond(m: &[u64], counts: &[u64], c: Columns) -> bool
     requires { Pathed m.now counts.now }
     ensures { result ≡ any (beyond_at m.now counts.now c) (up_to (used m.now)) }
 {
-    let n = m[1];
-    let mut i: u64 = 0;
-    while i < n {
+    for i in 0..m[1] {
         if is_beyond(m, counts, c, i) {
             return true;
         }
-        i += 1;
     }
     false
 }
@@ -115,25 +102,12 @@ pub(crate) fn bad_table(
 pub fn any_bad(ws: &[u64]) -> bool
     ensures { result ≡ any bad_word ws.now }
 {
-    let mut k = 0;
-    while k < ws.len() {
-        if bad_word(ws[k]) {
-            return true;
-        }
-        k += 1;
-    }
-    false
+    ws.iter().any(|&w| bad_word(w))
 }
 
 // Every word of the three lists is a given word.
 pub(crate) fn bad_given(main: &[u64], aux: &[u64], challenges: &[u64]) -> bool
     ensures { result ≡ any bad_word (main.now ++ aux.now ++ challenges.now) }
 {
-    if any_bad(main) {
-        return true;
-    }
-    if any_bad(aux) {
-        return true;
-    }
-    any_bad(challenges)
+    any_bad(main) || any_bad(aux) || any_bad(challenges)
 }

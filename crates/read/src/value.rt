@@ -9,46 +9,34 @@ ghost use Rattle.reading.specs.Answers.{told_value};
 ghost use Rattle.read.specs.Tables.{Filled, Right, Told, Roomy, Asked};
 ghost use Rattle.read.specs.Values.{value_at, value_entry, value_start, first_word, put_triple, Evaluable, Findable};
 
-use crate::step::{Step, UNKNOWN, step_at};
+use crate::step::{UNKNOWN, step_at};
 use crate::table::{bad_given, bad_table};
 use arithmetic::Triple;
 use circuit::check::check;
-use circuit::place::expression_at;
+use circuit::place::{entry, expression_at};
 use field::extension;
 use layout::node::{Expression, Op, Position};
-use layout::refusal::{BAD_ID, BAD_WORD, NOT_CIRCUIT, TABLE};
+use layout::refusal::Refusal;
 use paths::counting::count_paths;
-use reading::answer::Value;
-
-// Word k of a row, or 0 beyond it.
-fn word_at(row: &[u64], k: usize) -> u64
-    ensures { result ≡ get_or row.now k 0 }
-{
-    if k < row.len() {
-        return row[k];
-    }
-    0
-}
 
 // Column c of one row of a main table, lifted.
 fn main_at(row: &[u64], c: u64) -> Triple
     ensures { result ≡ lift (get_or row.now c 0) }
 {
-    extension::lift(word_at(row, c as usize))
+    extension::lift(entry(row, c))
 }
 
 // Column c of one row of an auxiliary table, or a challenge.
 pub fn aux_at(row: &[u64], c: u64) -> Triple
     ensures { result ≡ triple_at row.now c }
 {
-    let k = c as usize;
-    if row.len() <= k {
+    if row.len() <= c as usize {
         return extension::lift(0);
     }
     Triple {
-        c0: word_at(row, 3 * k),
-        c1: word_at(row, 3 * k + 1),
-        c2: word_at(row, 3 * k + 2),
+        c0: entry(row, 3 * c),
+        c1: entry(row, 3 * c + 1),
+        c2: entry(row, 3 * c + 2),
     }
 }
 
@@ -106,15 +94,12 @@ fn leaf_values(m: &[u64], table: &mut [u64], main: &[u64], aux: &[u64], challeng
     requires { Roomy 3 m.now table.old }
     ensures { Filled (used m.now) (triple_at table.new) (value_start (assigned main.now aux.now challenges.now) m.now) }
 {
-    let n = m[1];
-    let mut i: u64 = 0;
-    while i < n {
+    for i in 0..m[1] {
         keep(
             table,
             i,
             leaf_value(expression_at(m, i), main, aux, challenges),
         );
-        i += 1;
     }
 }
 
@@ -136,8 +121,8 @@ fn find_value(m: &[u64], rank: &[u64], table: &mut [u64], i: u64)
     let known = entry_at(table, i);
     let s = step_at(m, i, known.c0);
     match s {
-        Step::Stay => {}
-        Step::Two(o, l, r) => {
+        None => {}
+        Some((o, l, r)) => {
             find_value(m, rank, table, l);
             find_value(m, rank, table, r);
             let x = value_over(o, entry_at(table, l), entry_at(table, r));
@@ -151,14 +136,10 @@ fn find_below(m: &[u64], rank: &[u64], counts: &[u64], table: &mut [u64])
     requires { Findable m.now rank.now counts.now table.old }
     ensures { (s : Assignment) → Right first_word m.now (triple_at table.old) (value_at s m.now) → Right first_word m.now (triple_at table.new) (value_at s m.now) }
 {
-    let n = m[1];
-    let mut i: u64 = 0;
-    while i < n {
-        let node = i as usize;
-        if counts[node] != 0 {
+    for i in 0..m[1] {
+        if counts[i as usize] != 0 {
             find_value(m, rank, table, i);
         }
-        i += 1;
     }
 }
 
@@ -182,25 +163,31 @@ fn value_at(
 }
 
 // The value of a node, where the lent tables hold the cells of the columns and the challenges.
-pub fn evaluate(m: &[u64], i: u64, main: &[u64], aux: &[u64], challenges: &[u64]) -> Value
+pub fn evaluate(
+    m: &[u64],
+    i: u64,
+    main: &[u64],
+    aux: &[u64],
+    challenges: &[u64],
+) -> Result<Triple, Refusal>
     ensures { told_value result ≡ evaluate_call m.now i main.now aux.now challenges.now }
 {
     let mut order = [0u64; 4096];
     let mut rank = [0u64; 4096];
     if !check(m, &mut order, &mut rank) {
-        return Value::Refused(NOT_CIRCUIT);
+        return Err(Refusal::NotCircuit);
     }
     if m[1] <= i {
-        return Value::Refused(BAD_ID);
+        return Err(Refusal::BadId);
     }
     let roots = [i];
     let mut counts = [0u64; 4096];
     count_paths(m, &order, &rank, &roots, &mut counts);
     if bad_table(m, &counts, i, main, aux, challenges) {
-        return Value::Refused(TABLE);
+        return Err(Refusal::Table);
     }
     if bad_given(main, aux, challenges) {
-        return Value::Refused(BAD_WORD);
+        return Err(Refusal::BadWord);
     }
-    Value::Found(value_at(m, &rank, &counts, i, main, aux, challenges))
+    Ok(value_at(m, &rank, &counts, i, main, aux, challenges))
 }

@@ -9,8 +9,7 @@ ghost use Rattle.read.specs.Marks.{Marked, Markable, marks};
 
 use circuit::check::check;
 use classes::find::classes;
-use layout::answer::Counted;
-use layout::refusal::{BAD_ID, NOT_CIRCUIT};
+use layout::refusal::Refusal;
 use paths::counting::count_paths;
 use paths::ids::bad_id;
 
@@ -19,15 +18,11 @@ fn mark_classes(m: &[u64], counts: &[u64], class: &[u64], seen: &mut [u64])
     requires { Markable m.now counts.now class.now seen.old }
     ensures { Marked counts.now class.now seen.new (used m.now) }
 {
-    let n = m[1];
-    let mut i: u64 = 0;
-    while i < n {
-        let node = i as usize;
-        if counts[node] != 0 {
-            let c = class[node] as usize;
+    for i in 0..m[1] {
+        if counts[i as usize] != 0 {
+            let c = class[i as usize] as usize;
             seen[c] = 1;
         }
-        i += 1;
     }
 }
 
@@ -35,16 +30,7 @@ fn count_marks(seen: &[u64], n: u64) -> u64
     requires { n ≤ length seen.now }
     ensures { result ≡ marks seen.now n }
 {
-    let mut found: u64 = 0;
-    let mut k: u64 = 0;
-    while k < n {
-        let place = k as usize;
-        if seen[place] == 1 {
-            found += 1;
-        }
-        k += 1;
-    }
-    found
+    seen[..n as usize].iter().filter(|&&x| x == 1).count() as u64
 }
 
 fn visible_of(m: &[u64], order: &[u64], rank: &[u64], roots: &[u64]) -> u64
@@ -63,16 +49,16 @@ fn visible_of(m: &[u64], order: &[u64], rank: &[u64], roots: &[u64]) -> u64
 }
 
 // How many structural classes there are below the roots.
-pub fn visible(m: &[u64], roots: &[u64]) -> Counted
+pub fn visible(m: &[u64], roots: &[u64]) -> Result<u64, Refusal>
     ensures { told_count result ≡ visible_call m.now roots.now }
 {
     let mut order = [0u64; 4096];
     let mut rank = [0u64; 4096];
     if !check(m, &mut order, &mut rank) {
-        return Counted::Refused(NOT_CIRCUIT);
+        return Err(Refusal::NotCircuit);
     }
     if bad_id(m, roots) {
-        return Counted::Refused(BAD_ID);
+        return Err(Refusal::BadId);
     }
-    Counted::Count(visible_of(m, &order, &rank, roots))
+    Ok(visible_of(m, &order, &rank, roots))
 }

@@ -120,20 +120,16 @@ fn call(t: &mut [u64], m: &mut [u64], roots: &mut [u64], request: &[u8]) {
 
 // Reads ids, as many as there are places.
 fn read_ids(list: &mut [u64], text: &[u8]) {
-    let mut at: usize = 0;
-    let mut k: usize = 0;
-    while k < list.len() {
-        put(list, k, number(text, at, 2));
-        at = std::num::wrapping_add_usize(at, 4);
-        k += 1;
+    for (place, id) in list.iter_mut().zip(text.chunks(4)) {
+        *place = number(id, 0, 2);
     }
 }
 
-// A sum is answered: the number of its ids, and these.
+// A sum: the number of its ids, and these. Its answer is the program replay's to compare.
 fn summed(m: &mut [u64], line: &[u8]) {
     let mut ids = [0u64; 256];
     read_ids(&mut ids, after(line, 3));
-    sum(m, part(&ids, 0, number(line, 1, 1) as usize));
+    let _ = sum(m, part(&ids, 0, number(line, 1, 1) as usize));
 }
 
 // A line is one record; its first character says which. Those that say what was answered are no calls.

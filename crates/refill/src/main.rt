@@ -6,8 +6,6 @@ mod text;
 mod trial;
 mod words;
 
-ghost use Rattle.std.specs.Prelude.{◌+◌, ◌<◌, ◌≤◌, length};
-
 use crate::calls::{LISTED, WORDS, record};
 use crate::words::{BEFORE, CIRCUITS, CONSTRAINTS, DIFFER, LOWERINGS, ROOTS, ROWS, TALLY, get};
 use inputs::{argument, opened, read_full};
@@ -20,25 +18,12 @@ const FILE: usize = 65536;
 // The longest name of a file.
 const NAME: usize = 4096;
 
-// Character i is looked at: where it ends a line, that is a record. Answers where the line begins that is read next.
-fn step(t: &mut [u64], m: &mut [u64], roots: &mut [u64], s: &[u8], at: usize, i: usize) -> usize
-    requires { (at ≤ i) × (i < length s.now) }
-    ensures { result ≤ i + 1 }
-{
-    if s[i] == b'\n' {
-        record(t, m, roots, &s[at..i]);
-        return i + 1;
-    }
-    at
-}
-
-// The records of all lines.
+// The records of all lines; what stands behind the last line feed is none.
 fn lines(t: &mut [u64], m: &mut [u64], roots: &mut [u64], s: &[u8]) {
-    let mut at: usize = 0;
-    let mut i: usize = 0;
-    while i < s.len() {
-        at = step(t, m, roots, s, at, i);
-        i += 1;
+    for line in s.split_inclusive(|&c| c == b'\n') {
+        if let Some(line) = line.strip_suffix(b"\n") {
+            record(t, m, roots, line);
+        }
     }
 }
 

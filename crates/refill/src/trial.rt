@@ -6,9 +6,7 @@ use crate::words::{
 use arithmetic::Triple;
 use field::base;
 use filler::calls::fill_rows;
-use filling::Filled;
 use read::value::evaluate;
-use reading::answer::Value;
 
 // Three rows are filled: all rows of a single-row circuit, all but the last of a dual-row one.
 const FILLED: u64 = 3;
@@ -75,62 +73,22 @@ fn random(t: &mut [u64]) -> u64 {
 }
 
 fn scatter(t: &mut [u64], table: &mut [u64]) {
-    let mut k: usize = 0;
-    while k < table.len() {
-        let x = random(t);
-        put(table, k, x);
-        k += 1;
+    for word in table {
+        *word = random(t);
     }
-}
-
-fn same(x: Triple, y: Triple) -> bool {
-    if x.c0 != y.c0 {
-        return false;
-    }
-    if x.c1 != y.c1 {
-        return false;
-    }
-    x.c2 == y.c2
-}
-
-// Whether a value was found, and is this one.
-fn is(v: Value, x: Triple) -> bool {
-    match v {
-        Value::Found(y) => same(x, y),
-        Value::Refused(_) => false,
-    }
-}
-
-// Whether two values were found, and are the same.
-fn agree(v: Value, w: Value) -> bool {
-    match v {
-        Value::Found(x) => is(w, x),
-        Value::Refused(_) => false,
-    }
-}
-
-fn flag(yes: bool) -> u64 {
-    if yes { 1 } else { 0 }
 }
 
 // How many of these nodes are zero.
 fn zeros(m: &[u64], list: &[u64], main: &[u64], aux: &[u64], challenges: &[u64]) -> u64 {
-    let mut n: u64 = 0;
-    let mut k: usize = 0;
-    while k < list.len() {
-        let v = evaluate(m, list[k], main, aux, challenges);
-        let zero = is(
-            v,
-            Triple {
-                c0: 0,
-                c1: 0,
-                c2: 0,
-            },
-        );
-        n = std::num::wrapping_add_u64(n, flag(zero));
-        k += 1;
-    }
-    n
+    let zero = Triple {
+        c0: 0,
+        c1: 0,
+        c2: 0,
+    };
+    let zeros = list
+        .iter()
+        .filter(|&&q| evaluate(m, q, main, aux, challenges) == Ok(zero));
+    zeros.count() as u64
 }
 
 // How many of these roots have the values that the old ones had.
@@ -145,15 +103,12 @@ fn agreeing(
     aux: &[u64],
     challenges: &[u64],
 ) -> u64 {
-    let mut n: u64 = 0;
-    let mut k: usize = 0;
-    while k < old_roots.len() {
-        let v = evaluate(old, old_roots[k], old_main, old_aux, challenges);
-        let w = evaluate(m, get(roots, k), main, aux, challenges);
-        n = std::num::wrapping_add_u64(n, flag(agree(v, w)));
-        k += 1;
-    }
-    n
+    let pairs = old_roots.iter().zip(roots);
+    let agree = pairs.filter(|&(&q, &r)| {
+        let v = evaluate(old, q, old_main, old_aux, challenges);
+        v.is_ok() && v == evaluate(m, r, main, aux, challenges)
+    });
+    agree.count() as u64
 }
 
 // So many were tried, and so many are as they have to be.
@@ -220,13 +175,6 @@ fn try_row(
     note(t, done);
 }
 
-fn is_done(f: Filled) -> bool {
-    match f {
-        Filled::Done => true,
-        Filled::Refused(_) => false,
-    }
-}
-
 // Fills the rows of tables that begin with these words, if they have as many.
 fn fill_tables(
     m: &[u64],
@@ -246,7 +194,7 @@ fn fill_tables(
     if aux.len() < k {
         return false;
     }
-    is_done(fill_rows(
+    fill_rows(
         m,
         mains,
         auxs,
@@ -256,7 +204,8 @@ fn fill_tables(
         &mut main[..n],
         &mut aux[..k],
         challenges,
-    ))
+    )
+    .is_ok()
 }
 
 // All cells get words, old columns and new ones; those of the rows are kept.
@@ -292,18 +241,12 @@ fn try_rows(
     s: Shape,
     done: bool,
 ) {
-    try_row(
-        t, old, old_roots, old_main, old_aux, m, roots, mains, auxs, main, aux, challenges, s,
-        done, 0,
-    );
-    try_row(
-        t, old, old_roots, old_main, old_aux, m, roots, mains, auxs, main, aux, challenges, s,
-        done, 1,
-    );
-    try_row(
-        t, old, old_roots, old_main, old_aux, m, roots, mains, auxs, main, aux, challenges, s,
-        done, 2,
-    );
+    for r in 0..FILLED {
+        try_row(
+            t, old, old_roots, old_main, old_aux, m, roots, mains, auxs, main, aux, challenges, s,
+            done, r,
+        );
+    }
 }
 
 // With tables that are lent, for all words and for the words before.

@@ -57,11 +57,9 @@ pub(crate) fn must(t: &mut [u64], holds: bool) {
     }
 }
 
-// Copies words, as many as there are places.
+// Copies words, as many as both have.
 pub(crate) fn copy(to: &mut [u64], from: &[u64]) {
-    let mut k: usize = 0;
-    while k < to.len() {
-        put(to, k, get(from, k));
-        k += 1;
+    for (place, &word) in to.iter_mut().zip(from) {
+        *place = word;
     }
 }

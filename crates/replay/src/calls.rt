@@ -5,8 +5,8 @@ use crate::tally::{
 };
 use crate::text::{after, before, number};
 use build_calls::calls::sum;
-use building::Answer;
 use frame::calls::frame;
+use layout::refusal::Refusal;
 
 // A frame waits for its answer, or a sum does.
 const FRAME: u64 = 1;
@@ -19,14 +19,6 @@ pub(crate) fn listed(roots: &[u64]) -> &[u64] {
     part(roots, 1, n as usize)
 }
 
-fn clear(list: &mut [u64]) {
-    let mut k: usize = 0;
-    while k < list.len() {
-        put(list, k, 0);
-        k += 1;
-    }
-}
-
 // A circuit begins: what was is forgotten. Until it starts, its row kind is 0.
 pub(crate) fn begin(t: &mut [u64], m: &mut [u64], roots: &mut [u64], tables: &mut [u64]) {
     turn(t, STAGE, 0, 0);
@@ -34,7 +26,7 @@ pub(crate) fn begin(t: &mut [u64], m: &mut [u64], roots: &mut [u64], tables: &mu
     add(t, CIRCUITS, 1);
     put(m, 0, 0);
     put(roots, 0, 0);
-    clear(tables);
+    tables.fill(0);
 }
 
 fn count_lowering(t: &mut [u64], answer: &[u8]) {
@@ -71,24 +63,20 @@ pub(crate) fn call(
     add(t, FRAMES, 1);
 }
 
-// Reads so many ids.
-fn read_ids(list: &mut [u64], text: &[u8], n: u64) {
-    let mut at: usize = 0;
-    let mut k: u64 = 0;
-    while k < n {
-        put(list, k as usize, number(text, at, 2));
-        at = std::num::wrapping_add_usize(at, 4);
-        k += 1;
+// Reads ids, as many as there are places.
+fn read_ids(list: &mut [u64], text: &[u8]) {
+    for (place, id) in list.iter_mut().zip(text.chunks(4)) {
+        *place = number(id, 0, 2);
     }
 }
 
-fn keep_sum(t: &mut [u64], said: Answer) {
+fn keep_sum(t: &mut [u64], said: Result<u64, Refusal>) {
     match said {
-        Answer::Id(i) => {
+        Ok(i) => {
             put(t, NUMBER, 0);
             put(t, ID, i);
         }
-        Answer::Refused(n) => put(t, NUMBER, n),
+        Err(r) => put(t, NUMBER, u64::from(r)),
     }
 }
 
@@ -98,7 +86,7 @@ pub(crate) fn summed(t: &mut [u64], m: &mut [u64], line: &[u8]) {
     let n = number(line, 1, 1);
     let text = after(line, 3);
     must(t, (text.len() / 4) as u64 == n);
-    read_ids(&mut ids, text, n);
+    read_ids(&mut ids, text);
     keep_sum(t, sum(m, part(&ids, 0, n as usize)));
     turn(t, CALLED, 0, SUM);
     add(t, SUMS, 1);

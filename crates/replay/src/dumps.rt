@@ -3,24 +3,16 @@ use crate::calls::listed;
 use crate::nodes::compare_degree;
 use crate::tally::{
     COUNTED, DUMPS, LEAST, NODE, PLACE, REGISTERED, SAID, STAGE, VALUED, WRONG, add, compare,
-    compare_list, flag, get, must, part, put, turn,
+    compare_count, compare_list, flag, get, must, part, put, turn,
 };
 use crate::text::{after, byte_at, number};
 use circuit::calls;
 use field::base;
-use layout::answer::{Counted, NodeRead};
+use layout::refusal;
 use paths::references::{count_references, distinct_counts};
 use paths::walk::walk;
 use read::degree::highest;
 use read::visible::visible;
-use walking::Count;
-
-fn compare_count(t: &mut [u64], c: Counted, want: u64) {
-    match c {
-        Counted::Count(n) => compare(t, n, want),
-        Counted::Refused(_) => put(t, WRONG, 1),
-    }
-}
 
 fn forget(t: &mut [u64]) {
     put(t, NODE, 0);
@@ -49,15 +41,6 @@ fn compare_head(t: &mut [u64], m: &[u64], roots: &[u64], line: &[u8]) {
     compare(t, listed(roots).len() as u64, number(line, 9, 1));
 }
 
-// Writes 0, 1, 2 and so on.
-fn count_up(list: &mut [u64], n: u64) {
-    let mut k: u64 = 0;
-    while k < n {
-        put(list, k as usize, k);
-        k += 1;
-    }
-}
-
 // All nodes have come: as many as are used, as many registered as was said, and as many structures below all of them as ids that are their own class.
 // So no two of these are equal, and each node's class is the least id of its structure.
 fn compare_whole(t: &mut [u64], m: &[u64]) {
@@ -67,8 +50,7 @@ fn compare_whole(t: &mut [u64], m: &[u64]) {
     let least = get(t, LEAST);
     compare_count(t, calls::used(m), nodes);
     compare(t, registered, said);
-    let mut ids = [0u64; 512];
-    count_up(&mut ids, nodes);
+    let ids: [u64; 512] = std::array::from_fn(|i| i as u64);
     compare_count(t, visible(m, part(&ids, 0, nodes as usize)), least);
 }
 
@@ -81,13 +63,9 @@ pub(crate) fn roots_of(t: &mut [u64], m: &[u64], roots: &[u64], line: &[u8]) {
 
 // The sum of a walk: what README.md of the vectors says.
 fn walk_sum(ids: &[u64]) -> u64 {
-    let mut sum: u64 = 0;
-    let mut k: usize = 0;
-    while k < ids.len() {
-        sum = base::add(base::multiply(sum, 1000003), base::add(ids[k], 1));
-        k += 1;
-    }
-    sum
+    ids.iter().fold(0, |sum, &id| {
+        base::add(base::multiply(sum, 1000003), base::add(id, 1))
+    })
 }
 
 // The root at the place that a record of this stage names, which comes in the list's order.
@@ -104,7 +82,7 @@ pub(crate) fn walked(t: &mut [u64], m: &[u64], roots: &[u64], list: &mut [u64], 
     let mut stack = [0u64; 512];
     let r = walk(m, &root, list, &mut stack);
     match r {
-        Count::Found(n) => {
+        Ok(n) => {
             let ids = part(list, 0, n as usize);
             if byte_at(line, 0) == b'w' {
                 compare(t, n, number(line, 3, 2));
@@ -114,7 +92,7 @@ pub(crate) fn walked(t: &mut [u64], m: &[u64], roots: &[u64], list: &mut [u64], 
                 compare(t, walk_sum(ids), number(line, 11, 8));
             }
         }
-        Count::Refused(_) => put(t, WRONG, 1),
+        Err(_) => put(t, WRONG, 1),
     }
 }
 
@@ -123,18 +101,8 @@ pub(crate) fn counted(t: &mut [u64], m: &mut [u64], roots: &[u64], line: &[u8]) 
     turn(t, STAGE, 4, 5);
     turn(t, PLACE, listed(roots).len() as u64, 0);
     put(t, COUNTED, 0);
-    let r = count_references(m, listed(roots));
-    match r {
-        walking::Counted::Written => compare(t, 0, number(line, 1, 1)),
-        walking::Counted::Refused(n) => compare(t, n, number(line, 1, 1)),
-    }
-}
-
-fn compare_references(t: &mut [u64], r: NodeRead, want: u64) {
-    match r {
-        NodeRead::Found(n) => compare(t, n.references, want),
-        NodeRead::Refused(_) => put(t, WRONG, 1),
-    }
+    let refused = refusal::number(count_references(m, listed(roots)));
+    compare(t, refused, number(line, 1, 1));
 }
 
 // Ids rise.
@@ -147,16 +115,15 @@ fn rise(t: &mut [u64], i: u64) {
 fn compare_pair(t: &mut [u64], m: &[u64], pair: &[u8]) {
     let i = number(pair, 0, 2);
     rise(t, i);
-    compare_references(t, calls::read(m, i), number(pair, 4, 4));
+    let references = calls::read(m, i).map(|n| n.references);
+    compare_count(t, references, number(pair, 4, 4));
 }
 
 fn compare_pairs(t: &mut [u64], m: &[u64], text: &[u8]) {
-    let mut at: usize = 0;
-    while text.len() - at >= 12 {
-        compare_pair(t, m, after(text, at));
-        at += 12;
+    for pair in text.chunks_exact(12) {
+        compare_pair(t, m, pair);
     }
-    must(t, at == text.len());
+    must(t, text.len() % 12 == 0);
 }
 
 // Ids and their reference counts.
@@ -171,11 +138,11 @@ pub(crate) fn distinct(t: &mut [u64], m: &[u64], roots: &[u64], line: &[u8]) {
     let mut list = [0u64; 512];
     let r = distinct_counts(m, root, &mut list);
     match r {
-        Count::Found(n) => {
+        Ok(n) => {
             compare(t, n, number(line, 3, 2));
             compare_list(t, part(&list, 0, n as usize), after(line, 7), 4);
         }
-        Count::Refused(_) => put(t, WRONG, 1),
+        Err(_) => put(t, WRONG, 1),
     }
 }
 

@@ -45,23 +45,10 @@ fn lines(
     ensures { IfOk result (λ at. at ≤ end) }
 {
     let mut at: usize = 0;
-    let mut i: usize = 0;
-    while i < end {
+    for i in 0..end {
         at = step(rt, t, m, roots, answer, tables, list, s, at, i)?;
-        i += 1;
     }
     Ok(at)
-}
-
-// Moves the bytes from `from` to `end` to the front.
-fn shift(s: &mut [u8], from: usize, end: usize)
-    requires { (from ≤ end) × (end ≤ length s.old) }
-{
-    let mut i = from;
-    while i < end {
-        s[i - from] = s[i];
-        i += 1;
-    }
 }
 
 // Reads behind the bytes that are kept: how many there are then.
@@ -70,17 +57,6 @@ fn fill<R: Read>(file: &mut R, part: &mut [u8], kept: usize) -> io::Result<usize
     ensures { IfOk result (λ end. (kept ≤ end) × (end ≤ length part.new)) }
 {
     Ok(kept + read_full(file, &mut part[kept..])?)
-}
-
-// How many turns are left.
-fn left(turns: u64, ended: bool) -> u64
-    requires { 0 < turns }
-    ensures { result < turns }
-{
-    if ended {
-        return 0;
-    }
-    turns - 1
 }
 
 // All lines of a file. A proved loop has to end, and nothing says that the file does.
@@ -96,12 +72,13 @@ pub(crate) fn replay<R: Read>(
     list: &mut [u64],
 ) -> io::Result<()> {
     let mut kept: usize = 0;
-    let mut turns: u64 = 100000;
-    while turns > 0 {
+    for _ in 0..100000 {
         let end = fill(file, part, kept)?;
+        if end == kept {
+            break;
+        }
         let at = lines(rt, t, m, roots, answer, tables, list, part, end)?;
-        shift(part, at, end);
-        turns = left(turns, end == kept);
+        part.copy_within(at..end, 0);
         kept = end - at;
     }
     Ok(())

@@ -1,23 +1,21 @@
 // The records of nodes: every reading of a node, compared.
 use crate::cells::{AUX, CHALLENGES, MAIN, NEXT_AUX, NEXT_MAIN, TABLES};
 use crate::tally::{
-    CLASSES, LEAST, NODE, NODES, REGISTERED, ROWS, STAGE, VALUED, WRONG, add, compare, flag, get,
-    must, part, put, turn,
+    CLASSES, LEAST, NODE, NODES, REGISTERED, ROWS, STAGE, VALUED, WRONG, add, compare,
+    compare_count, flag, get, must, part, put, turn,
 };
 use crate::text::{after, byte_at, code_at, number, triple};
 use arithmetic::Triple;
 use circuit::calls;
 use circuit::place::{FourWords, words_of};
-use classes::Equal;
 use classes::calls::equal;
 use field::extension::lift;
-use layout::answer::NodeRead;
 use layout::node::Node;
+use layout::refusal::Refusal;
 use read::base_test::base_test;
 use read::constants::{is_minus_one, is_one, is_zero};
 use read::degree::degree;
 use read::value::evaluate;
-use reading::answer::{Degree, Test, Value};
 
 // How many digits an expression of this kind takes.
 fn width(kind: u64) -> usize {
@@ -99,8 +97,8 @@ fn compare_node(t: &mut [u64], n: Node, text: &[u8]) {
 fn compare_read(t: &mut [u64], m: &[u64], i: u64, text: &[u8]) {
     let r = calls::read(m, i);
     match r {
-        NodeRead::Found(n) => compare_node(t, n, text),
-        NodeRead::Refused(_) => put(t, WRONG, 1),
+        Ok(n) => compare_node(t, n, text),
+        Err(_) => put(t, WRONG, 1),
     }
 }
 
@@ -113,11 +111,8 @@ fn below(n: u64) -> i64 {
 }
 
 // A degree, which is written as one more.
-pub(crate) fn compare_degree(t: &mut [u64], d: Degree, want: u64) {
-    match d {
-        Degree::Found(d) => compare(t, flag(d == below(want)), 1),
-        Degree::Refused(_) => put(t, WRONG, 1),
-    }
+pub(crate) fn compare_degree(t: &mut [u64], d: Result<i64, Refusal>, want: u64) {
+    compare_count(t, d.map(|d| flag(d == below(want))), 1);
 }
 
 // A test as it is written.
@@ -125,11 +120,8 @@ fn written(yes: bool) -> u8 {
     if yes { b'1' } else { b'0' }
 }
 
-fn compare_test(t: &mut [u64], r: Test, want: u64) {
-    match r {
-        Test::Answer(yes) => compare(t, written(yes) as u64, want),
-        Test::Refused(_) => put(t, WRONG, 1),
-    }
+fn compare_test(t: &mut [u64], r: Result<bool, Refusal>, want: u64) {
+    compare_count(t, r.map(|yes| written(yes) as u64), want);
 }
 
 // The tests for 0, 1 and -1.
@@ -159,17 +151,13 @@ fn compare_class(t: &mut [u64], m: &[u64], i: u64, class: u64) {
     must(t, class <= i);
     let own = get(t, class_place(class));
     must(t, own == class);
-    let r = equal(m, i, class);
-    match r {
-        Equal::Answer(yes) => compare(t, flag(yes), 1),
-        Equal::Refused(_) => put(t, WRONG, 1),
-    }
+    compare_count(t, equal(m, i, class).map(flag), 1);
 }
 
 // The value: a word where the base test says yes, else a triple.
-fn compare_value(t: &mut [u64], v: Value, base: bool, text: &[u8]) {
+fn compare_value(t: &mut [u64], v: Result<Triple, Refusal>, base: bool, text: &[u8]) {
     match v {
-        Value::Found(x) => {
+        Ok(x) => {
             if base {
                 must(t, text.len() == 16);
                 compare_triple(t, x, lift(number(text, 0, 8)));
@@ -178,12 +166,12 @@ fn compare_value(t: &mut [u64], v: Value, base: bool, text: &[u8]) {
                 compare_triple(t, x, triple(text, 0));
             }
         }
-        Value::Refused(_) => put(t, WRONG, 1),
+        Err(_) => put(t, WRONG, 1),
     }
 }
 
 // The value of a node. A single-row circuit's tables are the first half of a dual-row one's.
-fn value_of(m: &[u64], i: u64, rows: u64, tables: &[u64]) -> Value {
+fn value_of(m: &[u64], i: u64, rows: u64, tables: &[u64]) -> Result<Triple, Refusal> {
     let challenges = part(tables, CHALLENGES, TABLES);
     if rows == 1 {
         return evaluate(

@@ -2,6 +2,7 @@
 ghost use Rattle.std.specs.Prelude.{◌≤◌};
 
 use crate::text::number;
+use layout::refusal::Refusal;
 
 // As in a file's last record: circuits, frames, sums, lowerings, substitutions, dumps, nodes.
 pub(crate) const CIRCUITS: usize = 0;
@@ -111,9 +112,17 @@ pub(crate) fn compare(t: &mut [u64], got: u64, want: u64) {
     }
 }
 
+// A number that a call answers, and may not refuse.
+pub(crate) fn compare_count(t: &mut [u64], got: Result<u64, Refusal>, want: u64) {
+    match got {
+        Ok(n) => compare(t, n, want),
+        Err(_) => put(t, WRONG, 1),
+    }
+}
+
 // Yes is 1 and no 0.
 pub(crate) fn flag(yes: bool) -> u64 {
-    if yes { 1 } else { 0 }
+    u64::from(yes)
 }
 
 // What has to hold of the records themselves.
@@ -135,34 +144,24 @@ pub(crate) fn compare_list(t: &mut [u64], words: &[u64], text: &[u8], size: usiz
     requires { size ≤ 8 }
 {
     let width = 2 * size;
-    let mut at: usize = 0;
-    let mut k: usize = 0;
-    while k < words.len() {
-        compare(t, words[k], number(text, at, size));
-        at = std::num::wrapping_add_usize(at, width);
-        k += 1;
+    for (k, &word) in words.iter().enumerate() {
+        compare(t, word, number(text, k * width, size));
     }
-    compare(t, at as u64, text.len() as u64);
+    compare(t, (words.len() * width) as u64, text.len() as u64);
 }
 
 // A file's last record.
 pub(crate) fn compare_totals(t: &mut [u64], line: &[u8]) {
-    let mut k: usize = 0;
-    let mut at: usize = 1;
-    while k < COMPARED {
+    for k in 0..COMPARED {
         let counted = get(t, k);
-        compare(t, counted, number(line, at, 4));
-        at = std::num::wrapping_add_usize(at, 8);
-        k += 1;
+        compare(t, counted, number(line, 1 + 8 * k, 4));
     }
     turn(t, ENDED, 0, 1);
 }
 
 // Adds one file's counts to the totals of all.
 pub(crate) fn add_all(totals: &mut [u64], t: &[u64]) {
-    let mut k: usize = 0;
-    while k < SUMMED {
+    for k in 0..SUMMED {
         add(totals, k, get(t, k));
-        k += 1;
     }
 }

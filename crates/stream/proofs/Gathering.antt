@@ -70,10 +70,10 @@ module _ (most : ℕ) (first part : List ℕ) where
               ∙ ap (λ (q : ℕ). line_of (q + (rest q kept').taken) (rest q kept').kept (rest q kept').ended) (sym (add-one i));
         }
 
-    pub gathering_all : length part ≤ i → i ≤ length part → line_of i kept false ≡ gathered most first part
-    gathering_all h j =
+    pub gathering_all : i ≤ length part → length part ≤ i → line_of (length part) kept false ≡ gathered most first part
+    gathering_all j h =
         let r : rest i kept ≡ line_of 0 kept false = ap (gathered most kept) (drop_of_length-le part {i = i} h) ∙ gathered_none most kept in
-        let z : i + 0 ≡ i = omega arith in
+        let z : i + 0 ≡ length part = omega arith in
         sym (g.so_far ∙ ap (λ (x : Line). line_of (i + x.taken) x.kept x.ended) r ∙ ap (λ (q : ℕ). line_of q kept false) z)
 
 -- never more than there is, and some if there is any

@@ -30,13 +30,10 @@ pub fn gather(line: &mut [u8], kept: usize, part: &[u8]) -> Gathered
     ensures { Gathers line.old kept part.now line.new result.taken result.kept result.ended }
 {
     let mut count = kept;
-    let mut taken: usize = 0;
-    while taken < part.len() {
-        let b = part[taken];
-        taken += 1;
+    for (i, &b) in part.iter().enumerate() {
         if b == LINE_FEED {
             return Gathered {
-                taken,
+                taken: i + 1,
                 kept: count,
                 ended: true,
             };
@@ -44,7 +41,7 @@ pub fn gather(line: &mut [u8], kept: usize, part: &[u8]) -> Gathered
         count = keep(line, count, b);
     }
     Gathered {
-        taken,
+        taken: part.len(),
         kept: count,
         ended: false,
     }

@@ -3,11 +3,8 @@ use Rattle.std.proofs.Common.{◌≤◌}
 use Rattle.desk_line.specs.Feeds.{Deskable}
 use Rattle.fill.proofs.serve.Given as goal
 
-abbrev pub invariant-loop-turns : goal.invariant-loop-turns
-invariant-loop-turns g l = record {
+abbrev pub invariant-loop : goal.invariant-loop
+invariant-loop g l = record {
   few : l.s.kept ≤ 131075;
   deskable : Deskable l.m l.numbers l.table l.least l.main l.aux l.challenges l.s.given l.row_main l.row_aux;
 }
-
-abbrev pub decreases-loop-turns : goal.decreases-loop-turns
-decreases-loop-turns g l = l.turns

@@ -4,8 +4,8 @@ use Prim.Native.Nat.{ℕ}
 use lib.Seq.{sets}
 use Rattle.abi.proofs.answers.test.Goals as goal
 
-pub returns-in-Answer : goal.returns-in-Answer
-returns-in-Answer c = rw c.in-Answer.is (record { number = c.give.ensures.0; out = c.give.ensures.1 ∙ ap (λ (v : ℕ). sets c.args.out.now 0 (v ∷ [])) c.bit.ensures; kept = refl })
+pub returns-in-Ok : goal.returns-in-Ok
+returns-in-Ok c = rw c.in-Ok.is (record { number = c.give.ensures.0; out = c.give.ensures.1 ∙ ap (λ (v : ℕ). sets c.args.out.now 0 (v ∷ [])) c.bit.ensures; kept = refl })
 
-pub returns-in-Refused : goal.returns-in-Refused
-returns-in-Refused c = rw c.in-Refused.is (record { number = c.give-in-Refused.ensures.0; out = c.give-in-Refused.ensures.1; kept = refl })
+pub returns-in-Err : goal.returns-in-Err
+returns-in-Err c = rw c.in-Err.is (record { number = c.give-in-Err.ensures.0 ∙ c.from.ensures; out = c.give-in-Err.ensures.1; kept = refl })

@@ -1,8 +1,8 @@
-use mathlib.Core.Path.{refl}
+use mathlib.Core.Path.{refl, ◌∙◌}
 use Rattle.abi.proofs.answers.value.Goals as goal
 
-pub returns-in-Found : goal.returns-in-Found
-returns-in-Found c = rw c.in-Found.is (record { number = c.give_three.ensures.0; out = c.give_three.ensures.1; kept = refl })
+pub returns-in-Ok : goal.returns-in-Ok
+returns-in-Ok c = rw c.in-Ok.is (record { number = c.give_three.ensures.0; out = c.give_three.ensures.1; kept = refl })
 
-pub returns-in-Refused : goal.returns-in-Refused
-returns-in-Refused c = rw c.in-Refused.is (record { number = c.give_three-in-Refused.ensures.0; out = c.give_three-in-Refused.ensures.1; kept = refl })
+pub returns-in-Err : goal.returns-in-Err
+returns-in-Err c = rw c.in-Err.is (record { number = c.give_three-in-Err.ensures.0 ∙ c.from.ensures; out = c.give_three-in-Err.ensures.1; kept = refl })

@@ -1,5 +1,5 @@
-use Rattle.abi.proofs.Passing.{handed_on}
+use Rattle.abi.proofs.Passing.{number_on}
 use Rattle.abi.proofs.leaves.atz_extension_constant.Goals as goal
 
 pub returns : goal.returns
-returns c = handed_on c.extension_constant.ensures (c.id.ensures _)
+returns c = number_on _ c.extension_constant.ensures c.number.ensures

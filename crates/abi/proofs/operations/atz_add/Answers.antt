@@ -1,5 +1,5 @@
-use Rattle.abi.proofs.Passing.{handed_on}
+use Rattle.abi.proofs.Passing.{number_on}
 use Rattle.abi.proofs.operations.atz_add.Goals as goal
 
 pub returns : goal.returns
-returns c = handed_on c.operation.ensures (c.id.ensures _)
+returns c = number_on _ c.operation.ensures c.number.ensures

@@ -1,5 +1,5 @@
-use Rattle.abi.proofs.Passing.{handed_on}
+use Rattle.abi.proofs.Passing.{number_on}
 use Rattle.abi.proofs.operations.atz_subtract.Goals as goal
 
 pub returns : goal.returns
-returns c = handed_on c.subtract.ensures (c.id.ensures _)
+returns c = number_on _ c.subtract.ensures c.number.ensures

@@ -2,4 +2,4 @@ use Rattle.abi.proofs.Passing.{handed_on}
 use Rattle.abi.proofs.readings.atz_visible.Goals as goal
 
 pub returns : goal.returns
-returns c = handed_on c.visible.ensures c.counted.ensures
+returns c = handed_on c.visible.ensures c.number.ensures

@@ -1,5 +1,5 @@
-use Rattle.abi.proofs.Passing.{handed_on}
+use Rattle.abi.proofs.Passing.{number_on}
 use Rattle.abi.proofs.walks.atz_distinct_counts.Goals as goal
 
 pub returns : goal.returns
-returns c = handed_on c.distinct_counts.ensures (c.count.ensures.0 _)
+returns c = number_on _ c.distinct_counts.ensures c.number.ensures

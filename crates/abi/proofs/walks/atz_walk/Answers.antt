@@ -1,5 +1,5 @@
-use Rattle.abi.proofs.Passing.{handed_on}
+use Rattle.abi.proofs.Passing.{number_on}
 use Rattle.abi.proofs.walks.atz_walk.Goals as goal
 
 pub returns : goal.returns
-returns c = handed_on c.walk.ensures (c.count.ensures.1 _)
+returns c = number_on _ c.walk.ensures c.number.ensures

@@ -12,13 +12,13 @@ pub save-requires : goal.save-requires
 save-requires c = lent_used _ (valid_length _ c.requires.buildable.circuit) (valid_room _ c.requires.buildable.circuit)
 
 pub restore-requires : goal.restore-requires
-restore-requires c = let s = told_full c.try_subtract-made.ensures c.in-Full.is in undoable _ _ _ _ _ c.requires.buildable.circuit s.left s.left.few (search rules)
+restore-requires c = let s = told_full c.try_subtract.ensures c.in_default.is in undoable _ _ _ _ _ c.requires.buildable.circuit s.left s.left.few (search rules)
 
 pub class_anew-requires : goal.class_anew-requires
-class_anew-requires c = let s = told_full c.try_subtract-made.ensures c.in-Full.is in classable _ _ _ _ _ _ _ _ c.requires.buildable (undone _ _ _ _ _ c.requires.buildable.circuit s.left s.left.few (search rules) _ c.save.ensures c.restore.ensures c.restore.auto.m) c.try_subtract-made.auto.numbers c.try_subtract-made.auto.table c.try_subtract-made.auto.least
+class_anew-requires c = let s = told_full c.try_subtract.ensures c.in_default.is in classable _ _ _ _ _ _ _ _ c.requires.buildable (undone _ _ _ _ _ c.requires.buildable.circuit s.left s.left.few (search rules) _ c.save.ensures c.restore.ensures c.restore.auto.m) c.try_subtract.auto.numbers c.try_subtract.auto.table c.try_subtract.auto.least
 
-pub returns-in-At : goal.returns-in-At
-returns-in-At c = record { told = told_at c.try_subtract-made.ensures _ c.in-At.is }
+pub returns-in-Some : goal.returns-in-Some
+returns-in-Some c = record { told = told_at c.try_subtract.ensures _ c.in-Some.is }
 
-pub returns-in-Full : goal.returns-in-Full
-returns-in-Full c = let s = told_full c.try_subtract-made.ensures c.in-Full.is in back_step _ _ _ _ _ _ s (undone _ _ _ _ _ c.requires.buildable.circuit s.left s.left.few (search rules) _ c.save.ensures c.restore.ensures c.restore.auto.m) c.class_anew.ensures
+pub returns : goal.returns
+returns c = let s = told_full c.try_subtract.ensures c.in_default.is in back_step _ _ _ _ _ _ s (undone _ _ _ _ _ c.requires.buildable.circuit s.left s.left.few (search rules) _ c.save.ensures c.restore.ensures c.restore.auto.m) c.class_anew.ensures

@@ -14,10 +14,10 @@ pub returns-then-ids-limit_of : goal.returns-then-ids-limit_of
 returns-then-ids-limit_of c = sum_fits _ _ _ _ _ _ _ _ _ _ c.requires (let l = c.limit_of.ensures in let r = valid_room _ c.requires.buildable.circuit in let t = c.if-ids-limit_of.true in omega arith) c.try_sum.ensures
 
 pub class_anew-requires : goal.class_anew-requires
-class_anew-requires c = let s = told_full c.sum_or_back-made.ensures c.in-Full.is in classable _ _ _ _ _ _ _ _ c.requires.buildable s.left c.sum_or_back-made.auto.numbers c.sum_or_back-made.auto.table c.sum_or_back-made.auto.least
+class_anew-requires c = let s = told_full c.sum_or_back.ensures c.in_default.is in classable _ _ _ _ _ _ _ _ c.requires.buildable s.left c.sum_or_back.auto.numbers c.sum_or_back.auto.table c.sum_or_back.auto.least
 
-pub returns-in-At : goal.returns-in-At
-returns-in-At c = record { told = told_at c.sum_or_back-made.ensures _ c.in-At.is }
+pub returns-in-Some : goal.returns-in-Some
+returns-in-Some c = record { told = told_at c.sum_or_back.ensures _ c.in-Some.is }
 
-pub returns-in-Full : goal.returns-in-Full
-returns-in-Full c = let s = told_full c.sum_or_back-made.ensures c.in-Full.is in back_step _ _ _ _ _ _ s s.left c.class_anew.ensures
+pub returns : goal.returns
+returns c = let s = told_full c.sum_or_back.ensures c.in_default.is in back_step _ _ _ _ _ _ s s.left c.class_anew.ensures

@@ -12,10 +12,10 @@ pub save-requires : goal.save-requires
 save-requires c = lent_used _ (valid_length _ c.requires.buildable.circuit) (valid_room _ c.requires.buildable.circuit)
 
 pub restore-requires : goal.restore-requires
-restore-requires c = let s = told_full c.try_sum-made.ensures c.in-Full.is in undoable _ 4096 _ _ _ c.requires.buildable.circuit s.left (kept_most s.left) (search rules)
+restore-requires c = let s = told_full c.try_sum.ensures c.in_default.is in undoable _ 4096 _ _ _ c.requires.buildable.circuit s.left (kept_most s.left) (search rules)
 
-pub returns-in-At : goal.returns-in-At
-returns-in-At c = record { told = told_at c.try_sum-made.ensures _ c.in-At.is }
+pub returns-in-Some : goal.returns-in-Some
+returns-in-Some c = record { told = told_at c.try_sum.ensures _ c.in-Some.is }
 
-pub returns-in-Full : goal.returns-in-Full
-returns-in-Full c = let s = told_full c.try_sum-made.ensures c.in-Full.is in record { told = record { over = s.over; left = undone _ 4096 _ _ _ c.requires.buildable.circuit s.left (kept_most s.left) (search rules) _ c.save.ensures c.restore.ensures c.restore.auto.m } }
+pub returns : goal.returns
+returns c = let s = told_full c.try_sum.ensures c.in_default.is in record { told = record { over = s.over; left = undone _ 4096 _ _ _ c.requires.buildable.circuit s.left (kept_most s.left) (search rules) _ c.save.ensures c.restore.ensures c.restore.auto.m } }

@@ -1,60 +1,25 @@
-use mathlib.Core.Path.{◌∙◌}
 use native.Mathlib.Omega.{arith}
+use lib.ListN.{length}
+use Rattle.std.proofs.lemmas.List.Edits.{length-between}
 use Rattle.layout.proofs.Valid.{valid_room}
 use Rattle.build.proofs.Stepping.{told_at, told_full}
-use Rattle.build.proofs.Runs.{sum_start, sum_end, sum_operable, sum_next, sum_stops}
+use Rattle.build.proofs.Runs.{later_below, later_id, sum_start, sum_end, sum_operable, sum_next, sum_stops}
 use Rattle.build.proofs.several.try_sum.Goals as goal
 
-pub bounds-ids-0 : goal.bounds-ids-0
-bounds-ids-0 c = c.requires.some
+pub loop-id-init : goal.loop-id-init
+loop-id-init c = sum_start _ _ _ _ _ c.requires (valid_room _ c.requires.buildable.circuit)
 
-pub loop-k-init : goal.loop-k-init
-loop-k-init c = sum_start _ _ _ _ _ c.requires (valid_room _ c.requires.buildable.circuit)
+pub operate-requires : goal.operate-requires
+operate-requires c = let l = c.loop-id-test.true in
+    rw (later_id c.args.ids.now _ l) (sum_operable _ _ _ _ _ c.requires _ _ _ _ _ _ c.loop-id.invariant (later_below _ _ l))
 
-pub offset_bounds-ids-k : goal.offset_bounds-ids-k
-offset_bounds-ids-k c = omega arith
+pub returns-in_err-i : goal.returns-in_err-i
+returns-in_err-i c = let l = c.loop-id-test.true in
+    rw c.from_residual.ensures (sum_stops _ _ _ _ _ c.requires _ _ _ _ _ _ c.loop-id.invariant (later_below _ _ l) _ _ _ _ (rw (later_id c.args.ids.now _ l) at (told_full c.operate.ensures c.in_err-i.was)))
 
-pub bounds-ids-k : goal.bounds-ids-k
-bounds-ids-k c = omega arith
-
-pub operate-both-requires : goal.operate-both-requires
-operate-both-requires c = sum_operable _ _ _ _ _ c.requires _ _ _ _ _ _ c.loop-k.invariant c.loop-k-test.true
-
-pub shape_of-m-in-Full : goal.shape_of-m-in-Full
-shape_of-m-in-Full c = c.operate-both.auto.m ∙ c.loop-k.invariant.words
-
-pub shape_of-numbers-in-Full : goal.shape_of-numbers-in-Full
-shape_of-numbers-in-Full c = c.operate-both.auto.numbers ∙ c.loop-k.invariant.numbers
-
-pub shape_of-table-in-Full : goal.shape_of-table-in-Full
-shape_of-table-in-Full c = c.operate-both.auto.table ∙ c.loop-k.invariant.keys
-
-pub shape_of-least-in-Full : goal.shape_of-least-in-Full
-shape_of-least-in-Full c = c.operate-both.auto.least ∙ c.loop-k.invariant.leasts
-
-pub returns-in-Full : goal.returns-in-Full
-returns-in-Full c = sum_stops _ _ _ _ _ c.requires _ _ _ _ _ _ c.loop-k.invariant c.loop-k-test.true _ _ _ _ (told_full c.operate-both.ensures c.in-Full.is)
-
-pub overflow_add-k : goal.overflow_add-k
-overflow_add-k c = omega arith
-
-pub loop-k-smaller : goal.loop-k-smaller
-loop-k-smaller c = omega arith
-
-pub loop-k-preserved : goal.loop-k-preserved
-loop-k-preserved c = sum_next _ _ _ _ _ c.requires _ _ _ _ _ _ c.loop-k.invariant c.loop-k-test.true _ _ _ _ _ (told_at c.operate-both.ensures _ c.in-At.is) c.operate-both.auto.m c.operate-both.auto.numbers c.operate-both.auto.table c.operate-both.auto.least
-
-pub shape_of-m : goal.shape_of-m
-shape_of-m c = c.loop-k.invariant.words
-
-pub shape_of-numbers : goal.shape_of-numbers
-shape_of-numbers c = c.loop-k.invariant.numbers
-
-pub shape_of-table : goal.shape_of-table
-shape_of-table c = c.loop-k.invariant.keys
-
-pub shape_of-least : goal.shape_of-least
-shape_of-least c = c.loop-k.invariant.leasts
+pub loop-id-preserved : goal.loop-id-preserved
+loop-id-preserved c = let l = c.loop-id-test.true in
+    sum_next _ _ _ _ _ c.requires _ _ _ _ _ _ c.loop-id.invariant (later_below _ _ l) _ _ _ _ _ (rw (later_id c.args.ids.now _ l) at (told_at c.operate.ensures _ c.in_ok-i.was))
 
 pub returns : goal.returns
-returns c = sum_end _ _ _ _ _ c.requires _ _ _ _ _ _ c.loop-k.invariant c.loop-k-test.false
+returns c = sum_end _ _ _ _ _ c.requires _ _ _ _ _ _ c.loop-id.invariant (let l = c.loop-id-test.false in let r = c.requires.some in omega (arith, length-between c.args.ids.now 1 (length c.args.ids.now) (omega arith)))

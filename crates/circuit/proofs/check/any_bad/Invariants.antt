@@ -1,4 +1,3 @@
-use Prim.Native.Nat.{◌≤◌, ◌-◌}
 use mathlib.Core.Path.{◌≡◌}
 use mathlib.Core.Bool.{false}
 use Rattle.layout.specs.Lists.{any, up_to}
@@ -6,7 +5,4 @@ use Rattle.layout.specs.NotCircuit.{bad_node}
 use Rattle.circuit.proofs.check.any_bad.Given as goal
 
 abbrev pub invariant-loop-i : goal.invariant-loop-i
-invariant-loop-i l = (l.i ≤ l.n) × (any (bad_node l.m) (up_to l.i) ≡ false)
-
-abbrev pub decreases-loop-i : goal.decreases-loop-i
-decreases-loop-i l = l.n - l.i
+invariant-loop-i l = any (bad_node l.m) (up_to l.i) ≡ false

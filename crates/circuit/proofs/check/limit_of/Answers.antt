@@ -6,10 +6,6 @@ pub returns-then-m-lt-HEADER : goal.returns-then-m-lt-HEADER
 unfolding limit
 returns-then-m-lt-HEADER c = omega arith
 
-pub returns-then-places-lt-MOST_NODES : goal.returns-then-places-lt-MOST_NODES
-unfolding limit
-returns-then-places-lt-MOST_NODES c = omega arith
-
 pub returns : goal.returns
 unfolding limit
 returns c = omega arith

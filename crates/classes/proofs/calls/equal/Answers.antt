@@ -36,4 +36,4 @@ number_all-requires c = checked_orderly _ _ _ _ _ _ c.check.ensures (ap not c.if
 
 pub returns : goal.returns
 unfolding equal_call
-returns c = ap (λ (b : Bool). accepted b tt) (ap₂ eqb c.number_at.ensures c.number_at-2.ensures ∙ number_same _ _ _ (accepts _ _ c.check.ensures.told (ap not c.if-not-check.false)) c.number_all.ensures _ _ c.if-m-i.false c.if-m-j.false) ∙ sym (reading_accepted c.args.m.now (c.args.i ∷ c.args.j ∷ []) [] _ _ (accepts _ _ c.check.ensures.told (ap not c.if-not-check.false)) (bad_id_next c.args.m.now _ _ c.if-m-i.false ∙ bad_id_next c.args.m.now _ _ c.if-m-j.false ∙ no_bad_id c.args.m.now) refusal_none)
+returns c = ap (λ (b : Bool). accepted b tt) (ap₂ eqb c.entry.ensures c.entry-2.ensures ∙ number_same _ _ _ (accepts _ _ c.check.ensures.told (ap not c.if-not-check.false)) c.number_all.ensures _ _ c.if-m-i.false c.if-m-j.false) ∙ sym (reading_accepted c.args.m.now (c.args.i ∷ c.args.j ∷ []) [] _ _ (accepts _ _ c.check.ensures.told (ap not c.if-not-check.false)) (bad_id_next c.args.m.now _ _ c.if-m-i.false ∙ bad_id_next c.args.m.now _ _ c.if-m-j.false ∙ no_bad_id c.args.m.now) refusal_none)

@@ -10,7 +10,7 @@ pub enter_one-requires : goal.enter_one-requires
 enter_one-requires c = join_enterable _ _ _ _ c.requires
 
 pub note-requires : goal.note-requires
-note-requires c = rw c.number_at.ensures (join_inside _ _ _ _ c.requires _ _ c.enter_one.ensures)
+note-requires c = rw c.entry.ensures (join_inside _ _ _ _ c.requires _ _ c.enter_one.ensures)
 
 pub returns : goal.returns
-returns c = join_all _ _ _ _ c.requires _ _ c.enter_one.ensures _ _ c.number_at.ensures c.note.ensures c.enter_one.auto.numbers c.enter_one.auto.table c.note.auto.least
+returns c = join_all _ _ _ _ c.requires _ _ c.enter_one.ensures _ _ c.entry.ensures c.note.ensures c.enter_one.auto.numbers c.enter_one.auto.table c.note.auto.least

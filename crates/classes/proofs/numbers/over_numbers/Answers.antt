@@ -12,7 +12,7 @@ pub returns-in-Challenge : goal.returns-in-Challenge
 returns-in-Challenge c = sym (ap (over _) c.in-Challenge.is)
 
 pub returns-in-Operation : goal.returns-in-Operation
-returns-in-Operation c = rw (c.in-Operation.is, c.number_at.ensures, c.number_at-in-Operation.ensures)
+returns-in-Operation c = rw (c.in-Operation.is, c.entry.ensures, c.entry-in-Operation.ensures)
 
 pub returns-in-Input : goal.returns-in-Input
 returns-in-Input c = sym (ap (over _) c.in-Input.is)

@@ -1,14 +1,15 @@
-use Rattle.classes.proofs.Words.{word_differs, word_agrees, word_last}
+use mathlib.Core.Path.{◌≡◌, refl, ap, ◌∙◌}
+use mathlib.Core.Bool.{Bool, true, false, ◌&&◌}
+use lib.Dec.{eqb}
+use Rattle.layout.specs.Lists.{same_words}
 use Rattle.classes.proofs.table.same_words.Goals as goal
 
-pub returns-then-v-w : goal.returns-then-v-w
-returns-then-v-w c = word_differs _ _ _ _ c.if-v-w.true
-
-pub returns-then-v-w-2 : goal.returns-then-v-w-2
-returns-then-v-w-2 c = word_agrees _ _ _ _ _ c.if-v-w.false (word_differs _ _ _ _ c.if-v-w-2.true)
-
-pub returns-then-v-w-3 : goal.returns-then-v-w-3
-returns-then-v-w-3 c = word_agrees _ _ _ _ _ c.if-v-w.false (word_agrees _ _ _ _ _ c.if-v-w-2.false (word_differs _ _ _ _ c.if-v-w-3.true))
+-- the test of the rest, of which there is none
+last : (b : Bool) → b ≡ (b && true)
+last true = refl
+last false = refl
 
 pub returns : goal.returns
-returns c = word_agrees _ _ _ _ _ c.if-v-w.false (word_agrees _ _ _ _ _ c.if-v-w-2.false (word_agrees _ _ _ _ _ c.if-v-w-3.false (word_last _ _)))
+unfolding same_words
+returns c = let v = c.args.v in let w = c.args.w in
+    c.eq.ensures ∙ ap (λ (b : Bool). eqb v.kind w.kind && (eqb v.first w.first && (eqb v.second w.second && b))) (last (eqb v.third w.third))

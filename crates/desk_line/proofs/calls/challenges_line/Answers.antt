@@ -9,4 +9,4 @@ pub put-written-requires : goal.put-written-requires
 put-written-requires c = omega (arith, byte_behind _ c.put_byte-next.ensures)
 
 pub returns : goal.returns
-returns c = (λ s l. challenges_answered (desk s l (take c.args.given c.args.challenges.now)) (desk s l (take c.give-g.result.words c.give-g.new.challenges)) _ _ _ _ _ _ _ (c.give-g.ensures.0 s l) c.put_byte-next.ensures c.put-written.ensures, c.give-g.ensures.1)
+returns c = (λ s l. challenges_answered (desk s l (take c.args.given c.args.challenges.now)) (desk s l (take c.give-g.result.words c.give-g.new.challenges)) _ _ _ _ _ _ _ (c.give-g.ensures.0 s l) (rw c.number.ensures at c.put_byte-next.ensures) c.put-written.ensures, c.give-g.ensures.1)

@@ -24,4 +24,4 @@ pub slice_bounds-fill-end-6 : goal.slice_bounds-fill-end-6
 slice_bounds-fill-end-6 c = sym (length-take-le _ _ (omega (arith, within_two _ _ (3 * c.args.latest.aux_count + 3 * c.args.latest.auxs) _ c.kind_of-rows.ensures c.requires.1.kind c.in_rows-v.ensures, c.requires.0.aux, c.requires.1.places.auxs)))
 
 pub returns : goal.returns
-returns c = front_filled c.args.latest c.args.m.now c.args.main.now c.args.aux.now c.args.challenges.now c.args.row_main.now c.args.row_aux.now c.kind_of-rows.result c.listed-a.result c.listed-b.result c.in_rows-w.result c.in_rows-v.result c.number_of.result c.fill.result c.fill.new.main c.fill.new.aux c.kind_of-rows.ensures c.listed-a.ensures.1 c.listed-b.ensures.1 c.in_rows-w.ensures c.in_rows-v.ensures c.number_of.ensures (c.fill.auto.main ∙ length-take-le _ _ (omega (arith, within_two _ _ (c.args.latest.main_count + c.args.latest.mains) _ c.kind_of-rows.ensures c.requires.1.kind c.in_rows-w.ensures, c.requires.0.main, c.requires.1.places.mains))) (c.fill.auto.aux ∙ length-take-le _ _ (omega (arith, within_two _ _ (3 * c.args.latest.aux_count + 3 * c.args.latest.auxs) _ c.kind_of-rows.ensures c.requires.1.kind c.in_rows-v.ensures, c.requires.0.aux, c.requires.1.places.auxs))) c.fill.ensures
+returns c = front_filled c.args.latest c.args.m.now c.args.main.now c.args.aux.now c.args.challenges.now c.args.row_main.now c.args.row_aux.now c.kind_of-rows.result c.listed-a.result c.listed-b.result c.in_rows-w.result c.in_rows-v.result c.number.result c.fill.result c.fill.new.main c.fill.new.aux c.kind_of-rows.ensures c.listed-a.ensures.1 c.listed-b.ensures.1 c.in_rows-w.ensures c.in_rows-v.ensures c.number.ensures (c.fill.auto.main ∙ length-take-le _ _ (omega (arith, within_two _ _ (c.args.latest.main_count + c.args.latest.mains) _ c.kind_of-rows.ensures c.requires.1.kind c.in_rows-w.ensures, c.requires.0.main, c.requires.1.places.mains))) (c.fill.auto.aux ∙ length-take-le _ _ (omega (arith, within_two _ _ (3 * c.args.latest.aux_count + 3 * c.args.latest.auxs) _ c.kind_of-rows.ensures c.requires.1.kind c.in_rows-v.ensures, c.requires.0.aux, c.requires.1.places.auxs))) c.fill.ensures

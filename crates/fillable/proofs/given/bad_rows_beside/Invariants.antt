@@ -1,13 +1,8 @@
-use lib.ListN.{length}
 use Rattle.fillable.proofs.Turns.{Beside}
 use Rattle.layout.specs.Lists.{any, up_to}
 use mathlib.Core.Path.{◌≡◌}
 use mathlib.Core.Bool.{false}
-use Prim.Native.Nat.{◌-◌, ◌*◌, ◌≤◌}
 use Rattle.fillable.proofs.given.bad_rows_beside.Given as goal
 
 abbrev pub invariant-loop-r : goal.invariant-loop-r
-invariant-loop-r l = (l.r ≤ l.filled) × (l.at ≤ length l.table) × (l.at ≡ l.r * l.width) × (any (Beside l.width l.from l.to l.filled l.table) (up_to l.r) ≡ false)
-
-abbrev pub decreases-loop-r : goal.decreases-loop-r
-decreases-loop-r l = l.filled - l.r
+invariant-loop-r l = any (Beside l.width l.from l.to l.filled l.table) (up_to l.r) ≡ false

@@ -1,11 +1,7 @@
-use Prim.Native.Nat.{ℕ, ◌≤◌, ◌<◌, ◌-◌}
+use Prim.Native.Nat.{ℕ, ◌<◌}
 use mathlib.Core.Path.{◌≡◌}
-use lib.ListN.{length}
 use Rattle.circuit.specs.Rank.{at}
 use Rattle.filler.proofs.order.list_ranked.Given as goal
 
 abbrev pub invariant-loop-i : goal.invariant-loop-i
-invariant-loop-i l = (l.i ≤ l.n) × ((length l.order ≡ length l.initial.order) × ((j : ℕ) → j < l.i → at l.rank j < l.n → at l.order (at l.rank j) ≡ j))
-
-abbrev pub decreases-loop-i : goal.decreases-loop-i
-decreases-loop-i l = l.n - l.i
+invariant-loop-i l = (j : ℕ) → j < l.i → at l.rank j < l.n → at l.order (at l.rank j) ≡ j

@@ -1,9 +1,5 @@
-use Prim.Native.Nat.{◌-◌}
 use Rattle.filler.proofs.Fixes.{Resolving}
 use Rattle.filler.proofs.prepare.resolve.Given as goal
 
-abbrev pub invariant-loop-k : goal.invariant-loop-k
-invariant-loop-k l = Resolving l.initial.targets l.alias l.targets l.items l.k
-
-abbrev pub decreases-loop-k : goal.decreases-loop-k
-decreases-loop-k l = l.items - l.k
+abbrev pub invariant-loop-t : goal.invariant-loop-t
+invariant-loop-t l = Resolving l.initial.t-items l.alias l.t-items l.t-index

@@ -1,10 +1,6 @@
-use Prim.Native.Nat.{◌-◌, ◌≤◌}
 use mathlib.Core.Path.{◌≡◌}
 use Rattle.framing.specs.Digits.{bytes_of, number_at}
 use Rattle.frame.proofs.digits.number.Given as goal
 
 abbrev pub invariant-loop-k : goal.invariant-loop-k
-invariant-loop-k l = (l.k ≤ l.size) × (l.n ≡ number_at l.k l.after (bytes_of l.line))
-
-abbrev pub decreases-loop-k : goal.decreases-loop-k
-decreases-loop-k l = l.size - l.k
+invariant-loop-k l = l.n ≡ number_at l.k l.after (bytes_of l.line)

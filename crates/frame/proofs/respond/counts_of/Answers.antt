@@ -2,8 +2,8 @@ use mathlib.Core.Path.{sym, ap}
 use Rattle.framing.specs.Answers.{counts_reply}
 use Rattle.frame.proofs.respond.counts_of.Goals as goal
 
-pub returns-in-Counts : goal.returns-in-Counts
-returns-in-Counts c = sym (ap counts_reply c.in-Counts.is)
+pub returns-in-Ok : goal.returns-in-Ok
+returns-in-Ok c = sym (ap counts_reply c.in-Ok.is)
 
-pub returns-in-Refused : goal.returns-in-Refused
-returns-in-Refused c = sym (ap counts_reply c.in-Refused.is)
+pub returns-in-Err : goal.returns-in-Err
+returns-in-Err c = rw c.from.ensures (sym (ap counts_reply c.in-Err.is))

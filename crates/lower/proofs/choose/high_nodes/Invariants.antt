@@ -1,9 +1,5 @@
-use Prim.Native.Nat.{◌-◌}
 use Rattle.lower.proofs.Selects.{Listing}
 use Rattle.lower.proofs.choose.high_nodes.Given as goal
 
 abbrev pub invariant-loop-i : goal.invariant-loop-i
-invariant-loop-i l = Listing l.degrees l.counts l.d l.n l.initial.high l.high l.many l.i
-
-abbrev pub decreases-loop-i : goal.decreases-loop-i
-decreases-loop-i l = l.n - l.i
+invariant-loop-i l = Listing l.degrees l.counts l.d l.high l.many l.i

@@ -1,6 +1,6 @@
-use Rattle.layout.proofs.Valid.{place_fits, limit_top}
+use Rattle.layout.proofs.Valid.{place_fits}
 use Prim.Native.Nat.{ℕ}
-use mathlib.Core.Path.{◌≡◌, refl, ap, ◌∙◌}
+use mathlib.Core.Path.{◌≡◌, ap, ◌∙◌}
 use mathlib.Core.List.{List}
 use native.Mathlib.Omega.{arith}
 use Rattle.layout.specs.Words.{used}
@@ -13,24 +13,15 @@ use Rattle.lower.proofs.redirect.redirect.Goals as goal
 pub write_word-requires : goal.write_word-requires
 write_word-requires c = let f = place_fits c.args.m.now c.args.s (omega arith) in (omega arith, omega arith)
 
-pub bounds-m-1 : goal.bounds-m-1
-bounds-m-1 c = let f = place_fits c.args.m.now c.args.s (omega arith) in let k = c.write_word.auto.m in omega arith
-
 pub loop-i-init : goal.loop-i-init
-loop-i-init c = (omega arith, (refl, each_start (rename_operands c.args.s c.args.n) _))
+loop-i-init c = each_start (rename_operands c.args.s c.args.n) _
 
 pub rename_operands-requires : goal.rename_operands-requires
-rename_operands-requires c = let m = c.args.m.now in let k = c.write_word.auto.m in let w = write_used m c.args.s 4 0 (omega arith) in let e = ap (λ (l : List ℕ). used l) c.write_word.ensures in let h = c.loop-i-test.true in let i = c.loop-i.invariant.1.0 in let f = place_fits m c.loop-i.i (omega arith) in omega arith
-
-pub overflow_add-i : goal.overflow_add-i
-overflow_add-i c = let m = c.args.m.now in let t = limit_top m in let w = write_used m c.args.s 4 0 (omega arith) in let e = ap (λ (l : List ℕ). used l) c.write_word.ensures in omega arith
-
-pub loop-i-smaller : goal.loop-i-smaller
-loop-i-smaller c = omega arith
+rename_operands-requires c = let m = c.args.m.now in let k = c.write_word.auto.m in let w = write_used m c.args.s 4 0 (omega arith) in let e = ap (λ (l : List ℕ). used l) c.write_word.ensures in let h = c.loop-i-test.true in let i = c.loop-i.auto.m in let f = place_fits m c.loop-i.i (omega arith) in omega arith
 
 pub loop-i-preserved : goal.loop-i-preserved
-loop-i-preserved c = (omega arith, (c.rename_operands.auto.m ∙ c.loop-i.invariant.1.0, each_next (rename_operands c.args.s c.args.n) _ _ _ _ c.loop-i.invariant.1.1 c.rename_operands.ensures))
+loop-i-preserved c = each_next (rename_operands c.args.s c.args.n) _ _ _ _ c.loop-i.invariant c.rename_operands.ensures
 
 pub returns : goal.returns
 unfolding redirected
-returns c = let m = c.args.m.now in let w = write_used m c.args.s 4 0 (omega arith) in let e = c.write_word.ensures in let q : c.loop-i.i ≡ used m = let g = ap (λ (l : List ℕ). used l) e in omega arith in c.loop-i.invariant.1.1 ∙ rw (q, e)
+returns c = let m = c.args.m.now in let w = write_used m c.args.s 4 0 (omega arith) in let e = c.write_word.ensures in let q : c.loop-i.i ≡ used m = let g = ap (λ (l : List ℕ). used l) e in omega arith in c.loop-i.invariant ∙ rw (q, e)

@@ -6,8 +6,8 @@ use Rattle.lower.proofs.redirect.rename_operands.Goals as goal
 pub returns-then-not-node : goal.returns-then-not-node
 returns-then-not-node c = rename_loose _ _ _ _ _ c.node_at-node.ensures (not-true _ c.if-not-node.true)
 
-pub returns-in-Stay : goal.returns-in-Stay
-returns-in-Stay c = rename_stay _ _ _ _ _ c.node_at-node.ensures (not-false _ c.if-not-node.false) (sym c.step_at-operands.ensures ∙ c.in-Stay.is)
+pub returns-in-None : goal.returns-in-None
+returns-in-None c = rename_stay _ _ _ _ _ c.node_at-node.ensures (not-false _ c.if-not-node.false) (sym c.step_at-operands.ensures ∙ c.in-None.is)
 
-pub returns-in-Two : goal.returns-in-Two
-returns-in-Two c = rw (c.write_word-in-Two.ensures, c.rename-in-Two.ensures, c.write_word.ensures, c.rename.ensures) (rename_two _ _ _ _ _ c.node_at-node.ensures (not-false _ c.if-not-node.false) _ _ (sym c.step_at-operands.ensures ∙ c.in-Two.is))
+pub returns-in-Some : goal.returns-in-Some
+returns-in-Some c = rw (c.write_word-in-Some.ensures, c.rename-in-Some.ensures, c.write_word.ensures, c.rename.ensures) (rename_two _ _ _ _ _ c.node_at-node.ensures (not-false _ c.if-not-node.false) _ _ (sym c.step_at-operands.ensures ∙ c.in-Some.is))

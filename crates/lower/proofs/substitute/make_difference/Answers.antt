@@ -1,8 +1,8 @@
-use Rattle.lower.proofs.Substitution.{gives_at, never_full}
+use Rattle.lower.proofs.Substitution.{gives_at, always_made}
 use Rattle.lower.proofs.substitute.make_difference.Goals as goal
 
-pub returns-in-At : goal.returns-in-At
-returns-in-At c = gives_at _ c.subtract-made.ensures c.in-At.is
+pub unwrap-requires : goal.unwrap-requires
+unwrap-requires c = always_made _ c.requires.roomy.room c.subtract.ensures
 
-pub returns-in-Full : goal.returns-in-Full
-returns-in-Full c = never_full c.requires.roomy.room c.subtract-made.ensures c.in-Full.is
+pub returns : goal.returns
+returns c = gives_at _ c.subtract.ensures c.unwrap.ensures

@@ -1,4 +1,3 @@
-use Prim.Native.Nat.{◌≤◌, ◌-◌}
 use mathlib.Core.Path.{◌≡◌}
 use mathlib.Core.Bool.{false}
 use Rattle.layout.specs.Lists.{any, up_to}
@@ -7,7 +6,4 @@ use Rattle.lowering.specs.Refusals.{input_at_or_above}
 use Rattle.lower.proofs.tests.any_at_or_above.Given as goal
 
 abbrev pub invariant-loop-i : goal.invariant-loop-i
-invariant-loop-i l = (l.i ≤ l.n) × (any (λ j. input_at_or_above l.main_count l.aux_count (expression_at l.m j)) (up_to l.i) ≡ false)
-
-abbrev pub decreases-loop-i : goal.decreases-loop-i
-decreases-loop-i l = l.n - l.i
+invariant-loop-i l = any (λ j. input_at_or_above l.main_count l.aux_count (expression_at l.m j)) (up_to l.i) ≡ false

@@ -1,7 +1,4 @@
-use Rattle.paths.proofs.Counts.{valid_top}
-use mathlib.Core.Path.{◌≡◌, sym, ◌∙◌}
-use native.Mathlib.Omega.{arith}
-use Rattle.layout.specs.Words.{used}
+use mathlib.Core.Path.{sym, ◌∙◌}
 use Rattle.lower.specs.Tables.{is_loose_in}
 use Rattle.layout.proofs.Tests.{any_start, any_one, any_next}
 use Rattle.layout.proofs.Valid.{valid_length, valid_fits}
@@ -11,7 +8,7 @@ pub bounds-m-1 : goal.bounds-m-1
 bounds-m-1 c = valid_length _ c.requires
 
 pub loop-i-init : goal.loop-i-init
-loop-i-init c = (omega arith, any_start (is_loose_in c.args.m.now c.args.counts.now))
+loop-i-init c = any_start (is_loose_in c.args.m.now c.args.counts.now)
 
 pub is_loose-requires : goal.is_loose-requires
 is_loose-requires c = valid_fits _ c.requires _ c.loop-i-test.true
@@ -19,11 +16,5 @@ is_loose-requires c = valid_fits _ c.requires _ c.loop-i-test.true
 pub returns-then-is_loose : goal.returns-then-is_loose
 returns-then-is_loose c = sym (any_one (is_loose_in c.args.m.now c.args.counts.now) _ _ c.loop-i-test.true (sym c.is_loose.ensures ∙ c.if-is_loose.true))
 
-pub overflow_add-i : goal.overflow_add-i
-overflow_add-i c = let t = valid_top c.args.m.now c.requires in omega arith
-
 pub loop-i-preserved : goal.loop-i-preserved
-loop-i-preserved c = (omega arith, any_next (is_loose_in c.args.m.now c.args.counts.now) _ c.loop-i.invariant.1 (sym c.is_loose.ensures ∙ c.if-is_loose.false))
-
-pub returns : goal.returns
-returns c = let e : c.loop-i.i ≡ used c.args.m.now = omega arith in sym (rw e at c.loop-i.invariant.1)
+loop-i-preserved c = any_next (is_loose_in c.args.m.now c.args.counts.now) _ c.loop-i.invariant (sym c.is_loose.ensures ∙ c.if-is_loose.false)

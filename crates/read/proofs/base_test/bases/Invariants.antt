@@ -1,13 +1,7 @@
-use Rattle.read.proofs.Tables.{Filling}
 use Rattle.read.specs.Bases.{base_bit}
-use Rattle.read.specs.Tables.{Right, itself}
+use Rattle.read.specs.Tables.{Filled, Right, itself}
 use Rattle.circuit.specs.Rank.{at}
-use Rattle.layout.specs.Words.{used}
-use Prim.Native.Nat.{◌-◌}
 use Rattle.read.proofs.base_test.bases.Given as goal
 
 abbrev pub invariant-loop-i : goal.invariant-loop-i
-invariant-loop-i l = Filling l.m l.initial.table l.table (at l.table) (base_bit l.m) l.i × Right itself l.m (at l.table) (base_bit l.m)
-
-abbrev pub decreases-loop-i : goal.decreases-loop-i
-decreases-loop-i l = used l.m - l.i
+invariant-loop-i l = Filled l.i (at l.table) (base_bit l.m) × Right itself l.m (at l.table) (base_bit l.m)

@@ -13,38 +13,38 @@ expression_at-e-requires c = valid_fits _ c.requires.valid _ c.requires.here
 
 pub offset_bounds-table-left : goal.offset_bounds-table-left
 offset_bounds-table-left c = let v = c.requires in
-    let e = sym (c.operands_of-s.ensures ∙ ap operands_of c.expression_at-e.ensures) ∙ c.in-Two.is in
+    let e = sym (c.operands_of-s.ensures ∙ ap operands_of c.expression_at-e.ensures) ∙ c.in-Some.is in
     let t = valid_top _ v.valid in
     let b = (operands_below v e).0 in
     omega arith
 
 pub bounds-table-left : goal.bounds-table-left
 bounds-table-left c = let v = c.requires in
-    let e = sym (c.operands_of-s.ensures ∙ ap operands_of c.expression_at-e.ensures) ∙ c.in-Two.is in
+    let e = sym (c.operands_of-s.ensures ∙ ap operands_of c.expression_at-e.ensures) ∙ c.in-Some.is in
     let r = v.room in
     let b = (operands_below v e).0 in
     omega arith
 
 pub offset_bounds-table-right : goal.offset_bounds-table-right
 offset_bounds-table-right c = let v = c.requires in
-    let e = sym (c.operands_of-s.ensures ∙ ap operands_of c.expression_at-e.ensures) ∙ c.in-Two.is in
+    let e = sym (c.operands_of-s.ensures ∙ ap operands_of c.expression_at-e.ensures) ∙ c.in-Some.is in
     let t = valid_top _ v.valid in
     let b = (operands_below v e).1 in
     omega arith
 
 pub bounds-table-right : goal.bounds-table-right
 bounds-table-right c = let v = c.requires in
-    let e = sym (c.operands_of-s.ensures ∙ ap operands_of c.expression_at-e.ensures) ∙ c.in-Two.is in
+    let e = sym (c.operands_of-s.ensures ∙ ap operands_of c.expression_at-e.ensures) ∙ c.in-Some.is in
     let r = v.room in
     let b = (operands_below v e).1 in
     omega arith
 
-pub returns-in-Stay : goal.returns-in-Stay
-returns-in-Stay c = let v = c.requires in
-    let e = sym (c.operands_of-s.ensures ∙ ap operands_of c.expression_at-e.ensures) ∙ c.in-Stay.is in
+pub returns-in-None : goal.returns-in-None
+returns-in-None c = let v = c.requires in
+    let e = sym (c.operands_of-s.ensures ∙ ap operands_of c.expression_at-e.ensures) ∙ c.in-None.is in
     c.leaf_degree.ensures ∙ ap degree_entry c.expression_at-e.ensures ∙ degree_leaf _ v.valid _ v.here e
 
-pub returns-in-Two : goal.returns-in-Two
-returns-in-Two c = let v = c.requires in
-    let e = sym (c.operands_of-s.ensures ∙ ap operands_of c.expression_at-e.ensures) ∙ c.in-Two.is in
+pub returns-in-Some : goal.returns-in-Some
+returns-in-Some c = let v = c.requires in
+    let e = sym (c.operands_of-s.ensures ∙ ap operands_of c.expression_at-e.ensures) ∙ c.in-Some.is in
     c.degree_over.ensures ∙ answer_joined v e degree_join (degree_two _ v.valid)

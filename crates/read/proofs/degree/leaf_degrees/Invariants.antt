@@ -1,12 +1,7 @@
-use Rattle.read.proofs.Tables.{Filling}
+use Rattle.read.specs.Tables.{Filled}
 use Rattle.read.specs.Degrees.{degree_start}
 use Rattle.circuit.specs.Rank.{at}
-use Rattle.layout.specs.Words.{used}
-use Prim.Native.Nat.{◌-◌}
 use Rattle.read.proofs.degree.leaf_degrees.Given as goal
 
 abbrev pub invariant-loop-i : goal.invariant-loop-i
-invariant-loop-i l = Filling l.m l.initial.table l.table (at l.table) (degree_start l.m) l.i
-
-abbrev pub decreases-loop-i : goal.decreases-loop-i
-decreases-loop-i l = used l.m - l.i
+invariant-loop-i l = Filled l.i (at l.table) (degree_start l.m)

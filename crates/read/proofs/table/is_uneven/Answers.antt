@@ -1,7 +1,6 @@
 use borrow.Author.Rules.{rules}
 use Rattle.read.proofs.Lent.{valid_rows}
 use Rattle.layout.proofs.Valid.{valid_length}
-use borrow.Author.Tests.{eq-eqb, ne_eqb}
 use native.Mathlib.Omega.{arith}
 use Rattle.read.proofs.table.is_uneven.Goals as goal
 
@@ -11,17 +10,8 @@ bounds-m-0 c = omega (arith, valid_length _ c.requires)
 pub nonzero_rem-main : goal.nonzero_rem-main
 nonzero_rem-main c = let r = valid_rows _ c.requires in search rules
 
-pub returns-then-main-rows-ne0 : goal.returns-then-main-rows-ne0
-returns-then-main-rows-ne0 c = rw (ne_eqb _ _ c.if-main-rows-ne0.true)
-
 pub overflow_mul-rows : goal.overflow_mul-rows
 overflow_mul-rows c = let r = valid_rows _ c.requires in search rules
 
 pub nonzero_rem-aux : goal.nonzero_rem-aux
 nonzero_rem-aux c = let r = valid_rows _ c.requires in search rules
-
-pub returns-then-aux-rows-ne0 : goal.returns-then-aux-rows-ne0
-returns-then-aux-rows-ne0 c = rw (eq-eqb _ _ c.if-main-rows-ne0.false, ne_eqb _ _ c.if-aux-rows-ne0.true)
-
-pub returns : goal.returns
-returns c = rw (eq-eqb _ _ c.if-main-rows-ne0.false, eq-eqb _ _ c.if-aux-rows-ne0.false)

@@ -9,33 +9,33 @@ pub step_at-s-requires : goal.step_at-s-requires
 step_at-s-requires t c = asked_fits c.requires
 
 pub find_value-requires : goal.find_value-requires
-find_value-requires t c = let a = ask_left c.requires _ (sym c.step_at-s.ensures ∙ c.in-Two.is) _ refl in
+find_value-requires t c = let a = ask_left c.requires _ (sym c.step_at-s.ensures ∙ c.in-Some.is) _ refl in
     (omega (arith, a.0), a.1)
 
-pub find_value-requires-in-Two : goal.find_value-requires-in-Two
-find_value-requires-in-Two t c = let a = ask_right c.requires _ (sym c.step_at-s.ensures ∙ c.in-Two.is) _ c.find_value.auto.table in
+pub find_value-requires-in-Some : goal.find_value-requires-in-Some
+find_value-requires-in-Some t c = let a = ask_right c.requires _ (sym c.step_at-s.ensures ∙ c.in-Some.is) _ c.find_value.auto.table in
     (omega (arith, a.0), a.1)
 
 pub entry_at-requires : goal.entry_at-requires
-entry_at-requires t c = let h = (ask_left c.requires _ (sym c.step_at-s.ensures ∙ c.in-Two.is) c.args.table.now refl).1.here in
-    omega (arith, c.requires.room, c.find_value.auto.table, c.find_value-in-Two.auto.table)
+entry_at-requires t c = let h = (ask_left c.requires _ (sym c.step_at-s.ensures ∙ c.in-Some.is) c.args.table.now refl).1.here in
+    omega (arith, c.requires.room, c.find_value.auto.table, c.find_value-in-Some.auto.table)
 
-pub entry_at-requires-in-Two : goal.entry_at-requires-in-Two
-entry_at-requires-in-Two t c = let h = (ask_right c.requires _ (sym c.step_at-s.ensures ∙ c.in-Two.is) c.args.table.now refl).1.here in
-    omega (arith, c.requires.room, c.find_value.auto.table, c.find_value-in-Two.auto.table)
+pub entry_at-requires-in-Some : goal.entry_at-requires-in-Some
+entry_at-requires-in-Some t c = let h = (ask_right c.requires _ (sym c.step_at-s.ensures ∙ c.in-Some.is) c.args.table.now refl).1.here in
+    omega (arith, c.requires.room, c.find_value.auto.table, c.find_value-in-Some.auto.table)
 
 pub keep-requires : goal.keep-requires
 keep-requires t c = let r = c.requires.room in
     let h = c.requires.here in
     let p = c.find_value.auto.table in
-    let q = c.find_value-in-Two.auto.table in
+    let q = c.find_value-in-Some.auto.table in
     omega arith
 
-pub returns-in-Stay : goal.returns-in-Stay
-returns-in-Stay t c = λ s. told_known first_word _ _ _ _ _ c.requires.here c.entry_at-known.ensures (sym c.step_at-s.ensures ∙ c.in-Stay.is)
+pub returns-in-None : goal.returns-in-None
+returns-in-None t c = λ s. told_known first_word _ _ _ _ _ c.requires.here c.entry_at-known.ensures (sym c.step_at-s.ensures ∙ c.in-None.is)
 
-pub shape_of-table-in-Two : goal.shape_of-table-in-Two
-shape_of-table-in-Two t c = c.keep.auto.table ∙ c.find_value-in-Two.auto.table ∙ c.find_value.auto.table
+pub shape_of-table-in-Some : goal.shape_of-table-in-Some
+shape_of-table-in-Some t c = c.keep.auto.table ∙ c.find_value-in-Some.auto.table ∙ c.find_value.auto.table
 
-pub returns-in-Two : goal.returns-in-Two
-returns-in-Two t c = λ s. told_triple s c.find_value.new.table c.find_value-in-Two.new.table _ _ _ _ _ c.requires (sym c.step_at-s.ensures ∙ c.in-Two.is) c.find_value.auto.table c.find_value-in-Two.auto.table c.entry_at.ensures c.entry_at-in-Two.ensures c.keep.ensures (c.find_value.ensures s) (c.find_value-in-Two.ensures s) c.value_over-x.ensures
+pub returns-in-Some : goal.returns-in-Some
+returns-in-Some t c = λ s. told_triple s c.find_value.new.table c.find_value-in-Some.new.table _ _ _ _ _ c.requires (sym c.step_at-s.ensures ∙ c.in-Some.is) c.find_value.auto.table c.find_value-in-Some.auto.table c.entry_at.ensures c.entry_at-in-Some.ensures c.keep.ensures (c.find_value.ensures s) (c.find_value-in-Some.ensures s) c.value_over-x.ensures

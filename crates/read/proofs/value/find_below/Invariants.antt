@@ -1,10 +1,8 @@
-use Rattle.read.proofs.Values.{Finding}
-use Rattle.layout.specs.Words.{used}
-use Prim.Native.Nat.{◌-◌}
+use Rattle.reading.specs.Calls.{triple_at}
+use Rattle.reading.specs.Readings.{Assignment}
+use Rattle.read.specs.Tables.{Right}
+use Rattle.read.specs.Values.{value_at, first_word}
 use Rattle.read.proofs.value.find_below.Given as goal
 
 abbrev pub invariant-loop-i : goal.invariant-loop-i
-invariant-loop-i l = Finding l.m l.initial.table l.table l.i
-
-abbrev pub decreases-loop-i : goal.decreases-loop-i
-decreases-loop-i l = used l.m - l.i
+invariant-loop-i l = (s : Assignment) → Right first_word l.m (triple_at l.initial.table) (value_at s l.m) → Right first_word l.m (triple_at l.table) (value_at s l.m)
