@@ -9,6 +9,7 @@ ghost use Rattle.abi.specs.Answers.{Answered, bit, signed_word, as_number, as_pa
 
 use arithmetic::Triple;
 use circuit::place::{FourWords, words_of};
+use circuit::refusal::number_of;
 use layout::node::Node;
 use layout::refusal::Refusal;
 
@@ -80,7 +81,7 @@ pub fn number(out: &mut [u64], answer: Result<u64, Refusal>) -> u64
 {
     match answer {
         Ok(n) => give(out, 0, n),
-        Err(r) => give(out, u64::from(r), 0),
+        Err(r) => give(out, number_of(r), 0),
     }
 }
 
@@ -99,7 +100,7 @@ pub fn node(out: &mut [u64], answer: Result<Node, Refusal>) -> u64
         Ok(n) => give_node(out, 0, n),
         Err(r) => give_six(
             out,
-            u64::from(r),
+            number_of(r),
             FourWords {
                 kind: 0,
                 first: 0,
@@ -117,7 +118,7 @@ pub fn test(out: &mut [u64], answer: Result<bool, Refusal>) -> u64
 {
     match answer {
         Ok(b) => give(out, 0, bit(b)),
-        Err(r) => give(out, u64::from(r), 0),
+        Err(r) => give(out, number_of(r), 0),
     }
 }
 
@@ -126,7 +127,7 @@ pub fn degree(out: &mut [u64], answer: Result<i64, Refusal>) -> u64
 {
     match answer {
         Ok(d) => give(out, 0, signed_word(d)),
-        Err(r) => give(out, u64::from(r), 0),
+        Err(r) => give(out, number_of(r), 0),
     }
 }
 
@@ -135,7 +136,7 @@ pub fn value(out: &mut [u64], answer: Result<Triple, Refusal>) -> u64
 {
     match answer {
         Ok(x) => give_three(out, 0, x.c0, x.c1, x.c2),
-        Err(r) => give_three(out, u64::from(r), 0, 0, 0),
+        Err(r) => give_three(out, number_of(r), 0, 0, 0),
     }
 }
 
@@ -144,6 +145,6 @@ pub fn lowered(out: &mut [u64], answer: Result<(u64, u64), Refusal>) -> u64
 {
     match answer {
         Ok((a, b)) => give_two(out, 0, a, b),
-        Err(r) => give_two(out, u64::from(r), 0, 0),
+        Err(r) => give_two(out, number_of(r), 0, 0),
     }
 }

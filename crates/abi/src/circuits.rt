@@ -7,9 +7,9 @@ ghost use Rattle.abi.specs.Answers.{Answered, Done, as_number, as_node};
 ghost use Rattle.abi.specs.Numbers.{start_by_number};
 
 use crate::answers::{node, number};
-use circuit::calls;
+use circuit::{calls, refusal};
 use layout::node::RowKind;
-use layout::refusal::{self, Refusal};
+use layout::refusal::Refusal;
 
 // Starts a circuit: kind 1 single-row, 2 dual-row.
 #[unsafe(no_mangle)]
@@ -22,7 +22,7 @@ pub extern "C" fn atz_start(m: &mut [u64], kind: u64) -> u64
     if kind == 2 {
         return refusal::number(calls::start(m, RowKind::Dual));
     }
-    u64::from(Refusal::NotCircuit)
+    refusal::number_of(Refusal::NotCircuit)
 }
 
 // Whether the words are a circuit: 0, or NOT_CIRCUIT.
@@ -31,7 +31,7 @@ pub extern "C" fn atz_is_circuit(m: &[u64]) -> u64
     ensures { result ≡ refusal ((1, not_circuit m.now) ∷ []) }
 {
     if !calls::is_circuit(m) {
-        return u64::from(Refusal::NotCircuit);
+        return refusal::number_of(Refusal::NotCircuit);
     }
     0
 }

@@ -2,8 +2,8 @@
 ghost use Rattle.filling.specs.Calls.{fill_call, fill_rows_call};
 ghost use Rattle.abi.specs.Answers.{Done};
 
+use circuit::refusal;
 use filler::calls;
-use layout::refusal;
 
 // Fills the new columns of one row; of a dual-row circuit both rows are lent, and the current one is filled.
 #[unsafe(no_mangle)]

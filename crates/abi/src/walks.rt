@@ -3,7 +3,7 @@ ghost use Rattle.walking.specs.Calls.{walk_call, count_call, counts_call};
 ghost use Rattle.abi.specs.Answers.{Answered, Done, as_number};
 
 use crate::answers::number;
-use layout::refusal;
+use circuit::refusal;
 use paths::references;
 use paths::walk::walk;
 

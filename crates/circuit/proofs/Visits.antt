@@ -202,11 +202,11 @@ module _ (m rank : List ℕ) (i done : ℕ) (v : Visiting m rank i done) (a b : 
     visit_right = record { able = able_kept m rank rank₁ v.able q; here = two_below.1; walking = x.walking }
 
     module _ (rank₂ : List ℕ) (both : ℕ) (q₂ : length rank₂ ≡ length rank₁) (y : Further m rank₁ rank₂ b both) where
-      visit_node : Visiting m rank₂ i both
+      pub visit_node : Visiting m rank₂ i both
       visit_node = record { able = able_kept m rank₁ rank₂ visit_right.able q₂; here = v.here; walking = y.walking }
 
       -- the node itself isn't finished meanwhile: it would be after its operand, and the operand is the last
-      still_unfinished : used m ≤ at rank i → used m ≤ at rank₂ i
+      pub still_unfinished : used m ≤ at rank i → used m ≤ at rank₂ i
       still_unfinished u = ⊎_elim (λ h. absurd (no h)) (λ h. h) (below_or (at rank₂ i) (used m))
         where
           t : TwoOperands (expression_at m i) a b
@@ -228,16 +228,16 @@ module _ (m rank : List ℕ) (i done : ℕ) (v : Visiting m rank i done) (a b : 
               (λ e. let f = w.right_first i t.op a b v.here h t.is in let g = w.before i v.here h in omega arith)
               y.last
 
-      two_kept : (j : ℕ) → at rank j < used m → at rank₂ j ≡ at rank j
+      pub two_kept : (j : ℕ) → at rank j < used m → at rank₂ j ≡ at rank j
       two_kept j h = let e = x.kept j h in y.kept j (omega arith) ∙ e
 
-      two_low : Below m rank rank₂ i
+      pub two_low : Below m rank rank₂ i
       two_low t f g j h =
           let two = is_two in
           let (ga, gb) = f i two.op a b g two.is in
           ⊎_elim (λ k. x.below t f ga j k) inr (y.below t f gb j h)
 
-      two_ready : Ready m rank₂ i
+      pub two_ready : Ready m rank₂ i
       two_ready o l r e =
           let h : ◌≡◌ {A = Option (ℕ × ℕ)} (Some (l, r)) (Some (a, b)) = sym (ap step_of e) ∙ s in
           let f : l ≡ a = (some_pair_parts _ _ _ _ h).0 in

@@ -1,5 +1,6 @@
 // The public calls of this layer. They ask nothing of the words that are lent: all are checked, each time.
 ghost use Rattle.std.specs.Prelude.{◌≡◌, not};
+ghost use Rattle.layout.specs.Words.{row_word};
 ghost use Rattle.layout.specs.NotCircuit.{not_circuit};
 ghost use Rattle.layout.specs.Calls.{start_call, read_call, used_call, free_call};
 ghost use Rattle.layout.specs.Answers.{told_start, told_node, told_count};
@@ -9,6 +10,13 @@ use crate::place::{HEADER, node_at};
 use layout::node::{Node, RowKind};
 use layout::refusal::Refusal;
 
+// The word of a row kind is its discriminant.
+fn row_word(kind: RowKind) -> u64
+    ensures { result ≡ row_word kind }
+{
+    kind as u64
+}
+
 // Starts a circuit in the lent words: single-row or dual-row, and no node used.
 pub fn start(m: &mut [u64], kind: RowKind) -> Result<(), Refusal>
     ensures { told_start result m.new ≡ start_call m.old kind }
@@ -16,7 +24,7 @@ pub fn start(m: &mut [u64], kind: RowKind) -> Result<(), Refusal>
     if m.len() < HEADER {
         return Err(Refusal::NotCircuit);
     }
-    m[0] = u64::from(kind);
+    m[0] = row_word(kind);
     m[1] = 0;
     Ok(())
 }

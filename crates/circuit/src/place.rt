@@ -1,7 +1,7 @@
 // The words of a place, read and written: nothing above this module knows where they stand.
 ghost use Rattle.std.specs.Prelude.{◌≡◌, [], ◌∷◌, ◌+◌, ◌<◌, ◌≤◌, length, set};
 ghost use Rattle.std.proofs.lemmas.List.Edits.{sets};
-ghost use Rattle.layout.specs.Words.{used, limit, offset, decode, expression_at, node_at, input_kind, column, encode, made};
+ghost use Rattle.layout.specs.Words.{used, limit, offset, decode, expression_at, node_at, op_kind, input_kind, column, encode, made};
 ghost use Rattle.circuit.specs.Rank.{at};
 
 use arithmetic::Triple;
@@ -73,6 +73,13 @@ pub struct FourWords {
     pub third: u64,
 }
 
+// The kind of an operation is its discriminant.
+fn op_kind(o: Op) -> u64
+    ensures { result ≡ op_kind o }
+{
+    o as u64
+}
+
 // The kind of an input.
 fn input_kind(q: Position) -> u64
     ensures { result ≡ input_kind q }
@@ -121,7 +128,7 @@ pub fn words_of(e: Expression) -> FourWords
             third: 0,
         },
         Expression::Operation(o, l, r) => FourWords {
-            kind: u64::from(o),
+            kind: op_kind(o),
             first: l,
             second: r,
             third: 0,

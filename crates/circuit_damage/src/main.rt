@@ -6,6 +6,7 @@ ghost use Rattle.std.specs.Prelude.{◌<◌, ◌≤◌};
 
 use circuit::calls::{free, read, start, used};
 use circuit::place::words_of;
+use circuit::refusal::number_of;
 use layout::node::{Node, RowKind};
 use layout::refusal::Refusal;
 use std::io;
@@ -44,7 +45,7 @@ fn compare(rt: &impl Print, t: Tally, got: u64, want: u64) -> io::Result<Tally> 
 fn number<T: Copy>(answer: Result<T, Refusal>) -> u64 {
     match answer {
         Ok(_) => 0,
-        Err(r) => u64::from(r),
+        Err(r) => number_of(r),
     }
 }
 

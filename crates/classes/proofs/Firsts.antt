@@ -83,7 +83,7 @@ first_longer q k n i l e =
     first-is q n (Some i) (record { below = omega arith; passes = f.passes; before = f.before })
 
 -- what a word stands for: the number before it
-slot_at : (s : ℕ) → (s ≡ 0 → ⊥) → Some (s - 1) ≡ slot s
+pub slot_at : (s : ℕ) → (s ≡ 0 → ⊥) → Some (s - 1) ≡ slot s
 slot_at zero n = absurd (n refl)
 slot_at (suc r) n = ap Some (less r)
   where

@@ -11,13 +11,13 @@ ghost use Rattle.desk_line.specs.Kinds.{line_kind, Desking};
 
 use crate::given::give;
 use crate::row::put_answer;
+use circuit::refusal::number;
 use desk::Latest;
 use frame::reply::{put, put_byte, write};
 use frame::request::read;
 use frame::respond::kind_of;
 use framing::{Reply, Request};
 use kept::respond::respond;
-use layout::refusal::number;
 
 const LINE_FEED: u8 = 10;
 

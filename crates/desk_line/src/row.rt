@@ -12,12 +12,13 @@ ghost use Rattle.desk_line.specs.Reading.{Stored, OneOrTwo};
 ghost use Rattle.desk_line.specs.Rows.{Narrow, Places, Rowable, main_words, aux_words, filled_as, TablesFilled};
 
 use crate::words::{put_words, read_rows};
+use circuit::refusal::{number, number_of};
 use desk::Latest;
 use filler::calls::fill;
 use frame::digits::all_digits;
 use frame::reply::put_byte;
 use frame::respond::kind_of;
-use layout::refusal::{Refusal, number};
+use layout::refusal::Refusal;
 
 const MOST: u64 = 1024;
 
@@ -172,7 +173,7 @@ pub(crate) fn put_answer(
 {
     let rows = kind_of(m);
     if let Err(r) = row_refusal(latest, rows, line) {
-        return put_byte(answer, 0, u64::from(r));
+        return put_byte(answer, 0, number_of(r));
     }
     read_tables(latest, rows, line, row_main, row_aux);
     let filled = fill_tables(m, main, aux, latest, challenges, row_main, row_aux);

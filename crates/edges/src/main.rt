@@ -5,6 +5,7 @@
 
 use build_calls::calls::{base_constant, challenge, input, negate, operation, subtract, sum};
 use circuit::calls::{free, read, start, used};
+use circuit::refusal::number_of;
 use layout::node::{Op, Position, RowKind};
 use layout::refusal::Refusal;
 use lower::calls::lower;
@@ -23,7 +24,7 @@ fn say_answer(rt: &impl Print, what: &str, a: Result<u64, Refusal>) -> io::Resul
     print!(rt; "{what}")?;
     match a {
         Ok(i) => say(rt, "id ", i)?,
-        Err(r) => say(rt, "refused ", u64::from(r))?,
+        Err(r) => say(rt, "refused ", number_of(r))?,
     }
     println!(rt; "")
 }
@@ -32,7 +33,7 @@ fn say_count(rt: &impl Print, what: &str, c: Result<u64, Refusal>) -> io::Result
     print!(rt; "{what}")?;
     match c {
         Ok(n) => say(rt, "", n)?,
-        Err(r) => say(rt, "refused ", u64::from(r))?,
+        Err(r) => say(rt, "refused ", number_of(r))?,
     }
     println!(rt; "")
 }
@@ -46,7 +47,7 @@ fn say_lowered(rt: &impl Print, what: &str, l: Result<(u64, u64), Refusal>) -> i
     print!(rt; "{what}")?;
     match l {
         Ok((a, b)) => say_counts(rt, a, b)?,
-        Err(r) => say(rt, "refused ", u64::from(r))?,
+        Err(r) => say(rt, "refused ", number_of(r))?,
     }
     println!(rt; "")
 }
@@ -54,7 +55,7 @@ fn say_lowered(rt: &impl Print, what: &str, l: Result<(u64, u64), Refusal>) -> i
 fn say_started(rt: &impl Print, s: Result<(), Refusal>) -> io::Result<()> {
     match s {
         Ok(()) => Ok(()),
-        Err(r) => say(rt, "start refused ", u64::from(r)),
+        Err(r) => say(rt, "start refused ", number_of(r)),
     }
 }
 
@@ -207,7 +208,7 @@ fn say_degree(rt: &impl Print, what: &str, d: Result<i64, Refusal>, right: i64) 
     print!(rt; "{what}")?;
     match d {
         Ok(n) => say_equal(rt, n, right)?,
-        Err(r) => say(rt, "refused ", u64::from(r))?,
+        Err(r) => say(rt, "refused ", number_of(r))?,
     }
     println!(rt; "")
 }
@@ -229,7 +230,7 @@ fn say_paths(rt: &impl Print, what: &str, m: &mut [u64], roots: &[u64]) -> io::R
     print!(rt; "{what}")?;
     match count_references(m, roots) {
         Ok(()) => say(rt, "", read(m, 0).map_or(0, |n| n.references))?,
-        Err(r) => say(rt, "refused ", u64::from(r))?,
+        Err(r) => say(rt, "refused ", number_of(r))?,
     }
     println!(rt; "")
 }

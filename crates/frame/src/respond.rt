@@ -8,6 +8,7 @@ use crate::roots;
 use build_calls::calls::{
     base_constant, challenge, extension_constant, input, negate, operation, subtract,
 };
+use circuit::refusal::number_of;
 use framing::{Reply, Request};
 use layout::node::{Position, RowKind};
 use layout::refusal::Refusal;
@@ -66,7 +67,7 @@ pub fn id_of(answer: Result<u64, Refusal>) -> Reply
 {
     match answer {
         Ok(i) => Reply::Id(0, i),
-        Err(r) => Reply::Id(u64::from(r), 0),
+        Err(r) => Reply::Id(number_of(r), 0),
     }
 }
 
@@ -80,7 +81,7 @@ fn start(m: &mut [u64], roots: &mut [u64], kind: RowKind) -> Reply
             roots::clear(roots);
             Reply::Bare(0)
         }
-        Err(r) => Reply::Bare(u64::from(r)),
+        Err(r) => Reply::Bare(number_of(r)),
     }
 }
 
@@ -127,7 +128,7 @@ fn counts_of(lowered: Result<(u64, u64), Refusal>) -> Reply
 {
     match lowered {
         Ok((a, b)) => Reply::Counts(0, a, b),
-        Err(r) => Reply::Counts(u64::from(r), 0, 0),
+        Err(r) => Reply::Counts(number_of(r), 0, 0),
     }
 }
 

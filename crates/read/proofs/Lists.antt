@@ -1,16 +1,19 @@
 -- Tests over lists, one element after the other. Assumes nothing.
 use Rattle.std.specs.List.{list_any}
-use Prim.Native.Nat.{ℕ, zero, suc, ◌<◌}
-use mathlib.Core.Path.{◌≡◌, refl, ap, ◌∙◌}
+use Prim.Native.Nat.{ℕ, zero, suc, ◌+◌, ◌<◌, ◌≤◌}
+use mathlib.Core.Path.{◌≡◌, refl, sym, ap, ◌∙◌}
 use mathlib.Core.Logic.{inl, inr}
 use mathlib.Core.Bool.{Bool, true, false, ◌||◌}
 use mathlib.Core.List.{List, [], ◌∷◌, ◌++◌, map}
+use native.Mathlib.Numerals.{add-one}
 use native.Mathlib.Omega.{arith}
 use lib.ListN.{length, get_or, take}
+use lib.Seq.{take-suc, take_all}
 use Rattle.layout.specs.Lists.{In, any, up_to}
 use Rattle.layout.specs.Words.{used}
 use Rattle.layout.specs.NotCircuit.{bad_id}
-use Rattle.layout.proofs.Tests.{any-more}
+use Rattle.layout.proofs.Tests.{or-false, or_right, any-more}
+use Rattle.layout.proofs.Lists.{or_left}
 use Rattle.layout.proofs.Refusals.{no_bad_id, bad_id_next}
 
 pub any_append : (p : ℕ → Bool) (xs ys : List ℕ) → any p (xs ++ ys) ≡ (any p xs || any p ys)
@@ -37,6 +40,23 @@ pub any_none_yet : (p : ℕ → Bool) (xs : List ℕ) → any p (take 0 xs) ≡ 
 unfolding any
 any_none_yet p [] = refl
 any_none_yet p (x ∷ xs) = refl
+
+one : (p : ℕ → Bool) (x : ℕ) → p x ≡ false → any p (x ∷ []) ≡ false
+unfolding any
+one p x h = rw h
+
+pub any_not_here : (p : ℕ → Bool) (xs : List ℕ) (k : ℕ) → k < length xs → any p (take k xs) ≡ false → p (get_or xs k 0) ≡ false → any p (take (k + 1) xs) ≡ false
+any_not_here p xs k h e f =
+    ap (any p) (rw add-one (take-suc xs k 0 h)) ∙ any_append p (take k xs) (get_or xs k 0 ∷ []) ∙ or-false (any p (take k xs)) (any p (get_or xs k 0 ∷ [])) e (one p (get_or xs k 0) f)
+
+pub any_nowhere : (p : ℕ → Bool) (xs : List ℕ) (k : ℕ) → length xs ≤ k → any p (take k xs) ≡ false → any p xs ≡ false
+any_nowhere p xs k h e = ap (any p) (sym (take_all k xs h)) ∙ e
+
+pub any_here : (p : ℕ → Bool) (xs : List ℕ) (k : ℕ) → k < length xs → p (get_or xs k 0) ≡ true → any p xs ≡ true
+unfolding any
+any_here p [] k h e = absurd (omega arith)
+any_here p (x ∷ xs) zero h e = or_left (p x) (any p xs) e
+any_here p (x ∷ xs) (suc k) h e = or_right (p x) (any p xs) (any_here p xs k (omega arith) e)
 
 -- tests that agree below n
 pub any_same : (p q : ℕ → Bool) (n : ℕ) → ((i : ℕ) → i < n → p i ≡ q i) → any p (up_to n) ≡ any q (up_to n)

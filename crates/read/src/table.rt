@@ -102,7 +102,12 @@ pub(crate) fn bad_table(
 pub fn any_bad(ws: &[u64]) -> bool
     ensures { result ≡ any bad_word ws.now }
 {
-    ws.iter().any(|&w| bad_word(w))
+    for &w in ws {
+        if bad_word(w) {
+            return true;
+        }
+    }
+    false
 }
 
 // Every word of the three lists is a given word.

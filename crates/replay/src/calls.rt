@@ -5,6 +5,7 @@ use crate::tally::{
 };
 use crate::text::{after, before, number};
 use build_calls::calls::sum;
+use circuit::refusal::number_of;
 use frame::calls::frame;
 use layout::refusal::Refusal;
 
@@ -76,7 +77,7 @@ fn keep_sum(t: &mut [u64], said: Result<u64, Refusal>) {
             put(t, NUMBER, 0);
             put(t, ID, i);
         }
-        Err(r) => put(t, NUMBER, u64::from(r)),
+        Err(r) => put(t, NUMBER, number_of(r)),
     }
 }
 

@@ -6,9 +6,8 @@ use crate::tally::{
     compare_count, compare_list, flag, get, must, part, put, turn,
 };
 use crate::text::{after, byte_at, number};
-use circuit::calls;
+use circuit::{calls, refusal};
 use field::base;
-use layout::refusal;
 use paths::references::{count_references, distinct_counts};
 use paths::walk::walk;
 use read::degree::highest;

@@ -12,4 +12,4 @@ pub returns-in-Ok : goal.returns-in-Ok
 returns-in-Ok c = rw c.in-Ok.is (record { number = c.give.ensures.0; out = c.give.ensures.1 ∙ ap (λ (v : ℕ). sets c.args.out.now 0 (v ∷ [])) (c.signed_word.ensures ∙ ap signed_word (to_z-of_z {w = w64} {z = c.in-Ok.d} (sfits_of (search rules)))); kept = refl })
 
 pub returns-in-Err : goal.returns-in-Err
-returns-in-Err c = rw c.in-Err.is (record { number = c.give-in-Err.ensures.0 ∙ c.from.ensures; out = c.give-in-Err.ensures.1; kept = refl })
+returns-in-Err c = rw c.in-Err.is (record { number = c.give-in-Err.ensures.0 ∙ c.number_of.ensures; out = c.give-in-Err.ensures.1; kept = refl })

@@ -7,4 +7,4 @@ returns-in-Ok c = rw c.in-Ok.is (record { number = c.give_node.ensures.0; out = 
 
 pub returns-in-Err : goal.returns-in-Err
 unfolding encode
-returns-in-Err c = rw c.in-Err.is (record { number = c.give_six.ensures.0 ∙ c.from.ensures; out = c.give_six.ensures.1; kept = refl })
+returns-in-Err c = rw c.in-Err.is (record { number = c.give_six.ensures.0 ∙ c.number_of.ensures; out = c.give_six.ensures.1; kept = refl })

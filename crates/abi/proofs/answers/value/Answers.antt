@@ -5,4 +5,4 @@ pub returns-in-Ok : goal.returns-in-Ok
 returns-in-Ok c = rw c.in-Ok.is (record { number = c.give_three.ensures.0; out = c.give_three.ensures.1; kept = refl })
 
 pub returns-in-Err : goal.returns-in-Err
-returns-in-Err c = rw c.in-Err.is (record { number = c.give_three-in-Err.ensures.0 ∙ c.from.ensures; out = c.give_three-in-Err.ensures.1; kept = refl })
+returns-in-Err c = rw c.in-Err.is (record { number = c.give_three-in-Err.ensures.0 ∙ c.number_of.ensures; out = c.give_three-in-Err.ensures.1; kept = refl })

@@ -11,4 +11,4 @@ pub returns-then-kind-eq2 : goal.returns-then-kind-eq2
 returns-then-kind-eq2 c = done_on _ (c.start-then-kind-eq2.ensures ∙ dual _ _ c.if-kind-eq1.false c.if-kind-eq2.true) c.number-then-kind-eq2.ensures
 
 pub returns : goal.returns
-returns c = done_on (Err NotCircuit) (no_kind _ _ c.if-kind-eq1.false c.if-kind-eq2.false) c.from.ensures
+returns c = done_on (Err NotCircuit) (no_kind _ _ c.if-kind-eq1.false c.if-kind-eq2.false) c.number_of.ensures

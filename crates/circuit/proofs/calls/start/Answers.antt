@@ -10,4 +10,4 @@ returns-then-m-lt-HEADER c = sym (outcome_refused _ _ _ _ _ 0 (refusal_here 1 _ 
 
 pub returns : goal.returns
 unfolding start_call
-returns c = rw c.from.ensures (sym (outcome_accepted _ _ _ _ _ (refusal_next 1 _ _ (le-ltb _ _ c.if-m-lt-HEADER.false) ∙ refusal_none)))
+returns c = rw c.row_word.ensures (sym (outcome_accepted _ _ _ _ _ (refusal_next 1 _ _ (le-ltb _ _ c.if-m-lt-HEADER.false) ∙ refusal_none)))

@@ -16,7 +16,7 @@ returns-in-Challenge c = sym (ap encode c.in-Challenge.is)
 
 pub returns-in-Operation : goal.returns-in-Operation
 unfolding encode
-returns-in-Operation c = rw (c.in-Operation.is, c.from.ensures)
+returns-in-Operation c = rw (c.in-Operation.is, c.op_kind.ensures)
 
 pub returns-in-Input : goal.returns-in-Input
 unfolding encode

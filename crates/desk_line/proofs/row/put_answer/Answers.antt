@@ -6,7 +6,7 @@ use Rattle.desk_line.proofs.Fills.{as_kind, its_narrow, row_refused, row_answere
 use Rattle.desk_line.proofs.row.put_answer.Goals as goal
 
 pub returns-in-Err : goal.returns-in-Err
-returns-in-Err c = λ roots. row_refused _ c.args.m.now c.args.main.now c.args.aux.now c.args.challenges.now _ roots _ _ c.kind_of-rows.ensures c.requires.kind (sym (ap answer_number c.in-Err.is) ∙ c.row_refusal.ensures) (λ z. number_some c.in-Err.r (sym z)) (rw c.from.ensures at c.put_byte.ensures)
+returns-in-Err c = λ roots. row_refused _ c.args.m.now c.args.main.now c.args.aux.now c.args.challenges.now _ roots _ _ c.kind_of-rows.ensures c.requires.kind (sym (ap answer_number c.in-Err.is) ∙ c.row_refusal.ensures) (λ z. number_some c.in-Err.r (sym z)) (rw c.number_of.ensures at c.put_byte.ensures)
 
 pub read_tables-requires : goal.read_tables-requires
 read_tables-requires c = (its_narrow _ c.args.m.now c.args.main.now c.args.aux.now c.args.challenges.now _ c.args.m.now _ _ c.kind_of-rows.ensures c.requires.kind (sym (ap answer_number c.in_default.is) ∙ c.row_refusal.ensures) refl, (as_kind _ _ c.kind_of-rows.ensures c.requires.kind, c.requires.places))

@@ -6,4 +6,4 @@ pub returns-in-Ok : goal.returns-in-Ok
 returns-in-Ok c = sym (ap counts_reply c.in-Ok.is)
 
 pub returns-in-Err : goal.returns-in-Err
-returns-in-Err c = rw c.from.ensures (sym (ap counts_reply c.in-Err.is))
+returns-in-Err c = rw c.number_of.ensures (sym (ap counts_reply c.in-Err.is))
