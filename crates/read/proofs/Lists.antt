@@ -1,35 +1,32 @@
 -- Tests over lists, one element after the other. Assumes nothing.
-use Rattle.std.specs.List.{list_any}
-use Prim.Native.Nat.{ℕ, zero, suc, ◌+◌, ◌<◌, ◌≤◌}
+use Rattle.std.specs.List.{list_any, fold}
+use Rattle.std.specs.Simd.{first_chunks}
+use Rattle.std.proofs.Math.Bool.{or_assoc, or-false}
+use Rattle.std.proofs.lemmas.List.{take-append-drop, drop-drop}
+use Prim.Native.Nat.{ℕ, zero, suc, ◌*◌, ◌<◌}
 use mathlib.Core.Path.{◌≡◌, refl, sym, ap, ◌∙◌}
 use mathlib.Core.Logic.{inl, inr}
-use mathlib.Core.Bool.{Bool, true, false, ◌||◌}
+use mathlib.Core.Bool.{Bool, false, ◌||◌}
 use mathlib.Core.List.{List, [], ◌∷◌, ◌++◌, map}
-use native.Mathlib.Numerals.{add-one}
+use native.Mathlib.Nat.{zero-mul, suc-mul, add_comm}
 use native.Mathlib.Omega.{arith}
-use lib.ListN.{length, get_or, take}
-use lib.Seq.{take-suc, take_all}
+use lib.ListN.{length, get_or, take, drop}
 use Rattle.layout.specs.Lists.{In, any, up_to}
 use Rattle.layout.specs.Words.{used}
 use Rattle.layout.specs.NotCircuit.{bad_id}
-use Rattle.layout.proofs.Tests.{or-false, or_right, any-more}
-use Rattle.layout.proofs.Lists.{or_left}
+use Rattle.layout.proofs.Tests.{any-more}
 use Rattle.layout.proofs.Refusals.{no_bad_id, bad_id_next}
 
 pub any_append : (p : ℕ → Bool) (xs ys : List ℕ) → any p (xs ++ ys) ≡ (any p xs || any p ys)
 unfolding any
 any_append p [] ys = refl
-any_append p (x ∷ xs) ys = rw (any_append p xs ys) (go (p x) (any p xs) (any p ys))
-  where
-    go : (a b c : Bool) → (a || (b || c)) ≡ ((a || b) || c)
-    go true b c = refl
-    go false b c = refl
+any_append p (x ∷ xs) ys = rw (any_append p xs ys) (sym (or_assoc (p x) (any p xs) (any p ys)))
 
 pub any_three : (p : ℕ → Bool) (xs ys zs : List ℕ) → any p (xs ++ ys ++ zs) ≡ (any p xs || any p ys || any p zs)
 any_three p xs ys zs = any_append p (xs ++ ys) zs ∙ ap (λ (b : Bool). b || any p zs) (any_append p xs ys)
 
 -- std's word for it
-pub any_listed : (p : ℕ → Bool) (xs : List ℕ) → list_any p xs ≡ any p xs
+pub any_listed : {A : Type 0} (p : A → Bool) (xs : List A) → list_any p xs ≡ any p xs
 unfolding any
 any_listed p [] = refl
 any_listed p (x ∷ xs) = rw (any_listed p xs)
@@ -41,22 +38,21 @@ unfolding any
 any_none_yet p [] = refl
 any_none_yet p (x ∷ xs) = refl
 
-one : (p : ℕ → Bool) (x : ℕ) → p x ≡ false → any p (x ∷ []) ≡ false
+-- in chunks
+
+pub any_folded : (p : ℕ → Bool) (b : Bool) (xs : List ℕ) → fold (λ c x. c || p x) b xs ≡ (b || any p xs)
 unfolding any
-one p x h = rw h
+any_folded p b [] = sym (or-false b)
+any_folded p b (x ∷ xs) = any_folded p (b || p x) xs ∙ or_assoc b (p x) (any p xs)
 
-pub any_not_here : (p : ℕ → Bool) (xs : List ℕ) (k : ℕ) → k < length xs → any p (take k xs) ≡ false → p (get_or xs k 0) ≡ false → any p (take (k + 1) xs) ≡ false
-any_not_here p xs k h e f =
-    ap (any p) (rw add-one (take-suc xs k 0 h)) ∙ any_append p (take k xs) (get_or xs k 0 ∷ []) ∙ or-false (any p (take k xs)) (any p (get_or xs k 0 ∷ [])) e (one p (get_or xs k 0) f)
-
-pub any_nowhere : (p : ℕ → Bool) (xs : List ℕ) (k : ℕ) → length xs ≤ k → any p (take k xs) ≡ false → any p xs ≡ false
-any_nowhere p xs k h e = ap (any p) (sym (take_all k xs h)) ∙ e
-
-pub any_here : (p : ℕ → Bool) (xs : List ℕ) (k : ℕ) → k < length xs → p (get_or xs k 0) ≡ true → any p xs ≡ true
+pub any_chunks : (p : ℕ → Bool) (n k : ℕ) (xs : List ℕ) → any p xs ≡ (any (any p) (first_chunks n k xs) || any p (drop (k * n) xs))
 unfolding any
-any_here p [] k h e = absurd (omega arith)
-any_here p (x ∷ xs) zero h e = or_left (p x) (any p xs) e
-any_here p (x ∷ xs) (suc k) h e = or_right (p x) (any p xs) (any_here p xs k (omega arith) e)
+any_chunks p n zero xs = ap (λ i. any p (drop i xs)) (sym (zero-mul n))
+any_chunks p n (suc k) xs =
+    ap (any p) (sym (take-append-drop n xs))
+    ∙ any_append p (take n xs) (drop n xs)
+    ∙ ap (λ (b : Bool). any p (take n xs) || b) (any_chunks p n k (drop n xs) ∙ ap (λ ys. any (any p) (first_chunks n k (drop n xs)) || any p ys) (drop-drop (k * n) n xs ∙ ap (λ i. drop i xs) (add_comm n (k * n) ∙ sym (suc-mul k n))))
+    ∙ sym (or_assoc (any p (take n xs)) (any (any p) (first_chunks n k (drop n xs))) (any p (drop (suc k * n) xs)))
 
 -- tests that agree below n
 pub any_same : (p q : ℕ → Bool) (n : ℕ) → ((i : ℕ) → i < n → p i ≡ q i) → any p (up_to n) ≡ any q (up_to n)

@@ -98,16 +98,19 @@ pub(crate) fn bad_table(
     any_beyond(m, counts, c)
 }
 
-// A word at or above p.
+// A word at or above p among eight, with no jump from one to the next: with jumps, where the code lies can cost 1.8 times the time.
+fn bad_eight(ws: &[u64; 8]) -> bool
+    ensures { result ≡ any bad_word ws.now }
+{
+    ws.iter().fold(false, |bad, &w| bad | bad_word(w))
+}
+
+// A word at or above p: eight at a time, and then the rest.
 pub fn any_bad(ws: &[u64]) -> bool
     ensures { result ≡ any bad_word ws.now }
 {
-    for &w in ws {
-        if bad_word(w) {
-            return true;
-        }
-    }
-    false
+    let (eights, rest) = ws.as_chunks::<8>();
+    eights.iter().any(|eight| bad_eight(eight)) || rest.iter().any(|&w| bad_word(w))
 }
 
 // Every word of the three lists is a given word.

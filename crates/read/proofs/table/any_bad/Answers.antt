@@ -1,16 +1,24 @@
-use mathlib.Core.Path.{sym, ◌∙◌}
+use Prim.Native.Nat.{◌/◌, ◌*◌}
+use mathlib.Core.Path.{sym, ap}
+use mathlib.Core.Bool.{Bool, ◌||◌}
+use lib.ListN.{length, drop}
+use Rattle.std.proofs.Common.{rules, tests, ◌∙◌}
+use Rattle.std.proofs.lemmas.Iterator.{YieldsList-from_slice}
+use Rattle.std.proofs.lemmas.Iterator.Search.{any_from_yields_List}
+use Rattle.std.specs.Simd.{first_chunks}
+use Rattle.layout.specs.Lists.{any}
 use Rattle.layout.specs.NotCircuit.{bad_word}
-use Rattle.read.proofs.Lists.{any_none_yet, any_not_here, any_nowhere, any_here}
+use Rattle.layout.proofs.Lists.{or_left}
+use Rattle.read.proofs.Lists.{any_listed, any_chunks}
 use Rattle.read.proofs.table.any_bad.Goals as goal
 
-pub loop-w-init : goal.loop-w-init
-loop-w-init c = any_none_yet bad_word c.args.ws.now
+pub returns-then-any : goal.returns-then-any
+returns-then-any c =
+    let eights = any_from_yields_List (any bad_word) _ _ _ c.any.ensures.ran (YieldsList-from_slice c.as_chunks.result.0.now cc) (λ x b q k. search (rules, tests)) ∙ any_listed (any bad_word) c.as_chunks.result.0.now in
+    c.if-any.true ∙ sym (any_chunks bad_word 8 (length c.args.ws.now / 8) c.args.ws.now ∙ or_left _ _ (sym (eights ∙ ap (any (any bad_word)) c.as_chunks.ensures.front) ∙ c.if-any.true))
 
-pub returns-then-bad_word : goal.returns-then-bad_word
-returns-then-bad_word c = sym (any_here bad_word c.args.ws.now c.loop-w.w-index c.loop-w-test.true (sym c.bad_word.ensures ∙ c.if-bad_word.true))
-
-pub loop-w-preserved : goal.loop-w-preserved
-loop-w-preserved c = any_not_here bad_word c.args.ws.now c.loop-w.w-index c.loop-w-test.true c.loop-w.invariant (sym c.bad_word.ensures ∙ c.if-bad_word.false)
-
-pub returns : goal.returns
-returns c = sym (any_nowhere bad_word c.args.ws.now c.loop-w.w-index c.loop-w-test.false c.loop-w.invariant)
+pub returns-else-any : goal.returns-else-any
+returns-else-any c =
+    let eights = any_from_yields_List (any bad_word) _ _ _ c.any.ensures.ran (YieldsList-from_slice c.as_chunks.result.0.now cc) (λ x b q k. search (rules, tests)) ∙ any_listed (any bad_word) c.as_chunks.result.0.now in
+    let rest = any_from_yields_List bad_word _ _ _ c.any-else-any.ensures.ran (YieldsList-from_slice c.as_chunks.result.1.now cc) (λ x b q k. search (rules, tests)) ∙ any_listed bad_word c.as_chunks.result.1.now in
+    rest ∙ ap (any bad_word) c.as_chunks.ensures.back ∙ sym (any_chunks bad_word 8 (length c.args.ws.now / 8) c.args.ws.now ∙ ap (λ (b : Bool). b || any bad_word (drop (length c.args.ws.now / 8 * 8) c.args.ws.now)) (sym (eights ∙ ap (any (any bad_word)) c.as_chunks.ensures.front) ∙ c.if-any.false))
